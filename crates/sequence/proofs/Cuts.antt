@@ -1,7 +1,8 @@
 -- A test that cuts a list holds of an item exactly if its number is below the cut.
-use Rattle.std.proofs.Common.{◌≡◌, ◌+◌, ◌-◌, ◌<◌, ◌≤◌, inl, inr, ℕ, zero, suc, Bool, true, List, [], ◌∷◌, length, take}
+use Rattle.std.proofs.Common.{◌≡◌, ◌+◌, ◌-◌, ◌*◌, ◌<◌, ◌≤◌, inl, inr, ℕ, zero, suc, Bool, true, List, [], ◌∷◌, length}
 use Rattle.std.proofs.Common.{get_or, get_or-drop, get_or-take, length-drop, length-take, nat_lt, refl, ap, sym, ◌∙◌}
-use Rattle.std.proofs.Common.{subst, arith, false, true≢false}
+use Rattle.std.proofs.Common.{subst, take, arith, false, true≢false}
+use Rattle.std.specs.Int.{from_bool}
 use Rattle.std.specs.Prelude.{Some, slice_get}
 use Rattle.std.proofs.lemmas.Bool.{cases_lt, le-ltb, lt-ltb}
 use Rattle.std.proofs.lemmas.List.Elements.{All-tail}
@@ -131,3 +132,71 @@ module _ {T : Type 0} (test : T → Bool) where
     last_item at e within item =
         let inside : at < length part = omega (arith, within) in
         sym (holds.part.at at inside) ∙ slice_get-get_or part at e inside ∙ ap (λ (e : T). Some e) (sym item)
+
+-- the quarter that begins behind as many of the three items as are before the cut
+module _ (at q cut : ℕ) where
+  pub record IsQuarter (n : ℕ) : Type 0 where
+    pub most : q * n ≤ 3 * q
+    pub among : IsAmong at (at + 4 * q) cut → IsAmong (at + q * n) (at + q * n + q) cut
+
+  before : (n k : ℕ) → n ≡ from_bool (nat_lt k cut) → k < cut → n ≡ 1
+  before n k is less = is ∙ ap from_bool (lt-ltb k cut less)
+
+  behind : (n k : ℕ) → n ≡ from_bool (nat_lt k cut) → cut ≤ k → n ≡ 0
+  behind n k is past = is ∙ ap from_bool (le-ltb k cut past)
+
+  pub quarter : (a b c : ℕ) → a ≡ from_bool (nat_lt (at + q) cut) → b ≡ from_bool (nat_lt (at + 2 * q) cut)
+      → c ≡ from_bool (nat_lt (at + 3 * q) cut) → IsQuarter (a + b + c)
+  quarter a b c first second third = elim (cases_lt (at + q) cut) [
+    | inr none ↦
+        let count : 0 ≡ a + b + c = omega (
+          arith,
+          behind a _ first none,
+          behind b _ second (omega (arith, none)),
+          behind c _ third (omega (arith, none)),
+        ) in
+        subst IsQuarter count (record {
+          most = omega arith;
+          among = λ was. record {
+            behind = λ some. omega (arith, was.behind (omega (arith, some)));
+            up = omega (arith, none);
+          };
+        })
+    | inl one ↦ elim (cases_lt (at + 2 * q) cut) [
+      | inr past ↦
+          let count : 1 ≡ a + b + c = omega (
+            arith,
+            before a _ first one,
+            behind b _ second past,
+            behind c _ third (omega (arith, past)),
+          ) in
+          subst IsQuarter count (record {
+            most = omega arith;
+            among = λ was. record { behind = λ _. omega (arith, one); up = omega (arith, past) };
+          })
+      | inl two ↦ elim (cases_lt (at + 3 * q) cut) [
+        | inr past ↦
+            let count : 2 ≡ a + b + c = omega (
+              arith,
+              before a _ first one,
+              before b _ second two,
+              behind c _ third past,
+            ) in
+            subst IsQuarter count (record {
+              most = omega arith;
+              among = λ was. record { behind = λ _. omega (arith, two); up = omega (arith, past) };
+            })
+        | inl three ↦
+            let count : 3 ≡ a + b + c = omega (
+              arith,
+              before a _ first one,
+              before b _ second two,
+              before c _ third three,
+            ) in
+            subst IsQuarter count (record {
+              most = omega arith;
+              among = λ was. record { behind = λ _. omega (arith, three); up = omega (arith, was.up) };
+            })
+      ]
+    ]
+  ]

@@ -7,8 +7,8 @@ use Rattle.std.proofs.lemmas.List.{get_or_default}
 use Rattle.std.proofs.lemmas.Option.{same_Some, slice_get_read}
 use Rattle.std.specs.Borrow.{MutBor}
 use Rattle.std.specs.Fn.{Once}
-use Rattle.sequence.specs.Acts.{IsAbsent, IsActed, IsAdded, IsChanged, IsFound, IsMissed, IsReplaced, IsTaken, changes}
-use Rattle.sequence.specs.Acts.{last_of, puts, takes}
+use Rattle.sequence.specs.Acts.{IsAbsent, IsActed, IsAdded, IsChanged, IsFound, IsMissed, IsMissing, IsReplaced}
+use Rattle.sequence.specs.Acts.{IsTaken, changes, last_of, puts, takes}
 use Rattle.sequence.specs.Cuts.{IsCut}
 use Rattle.sequence.specs.Spots.{spliced}
 use Rattle.sequence.proofs.Lists.Spliced.{come_in, remove_spliced, set_spliced}
@@ -188,3 +188,9 @@ module _ {T : Type 0} (sought test : T → Bool) (old new : List T) where
       missed = subst (λ (n : ℕ). IsMissed sought (last_of n old)) (sym (none did.at)) did.done.0;
       items = come did.more (made ∷ []) did.at did.items did.done.1;
     }
+
+-- what was missing at an equal cut of an equal list is absent
+pub still_absent : {P T : Type 0} (sought test : P → T → Bool) {p q : P} {old es : List T} (at : ℕ) → p ≡ q → es ≡ old
+    → IsMissing (sought p) (test p) es at → IsAbsent (sought q) (test q) old
+still_absent sought test {p} {q} {old} {es} at same left none = subst (λ x. IsAbsent (sought x) (test x) old) same
+    (subst (IsAbsent (sought p) (test p)) left (record { at = at; cut = none.cut; missed = none.missed }))

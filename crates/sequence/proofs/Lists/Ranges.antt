@@ -1,6 +1,7 @@
 -- The items of a list from one number up to another.
 use Rattle.std.proofs.Common.{◌≡◌, ℕ, ◌+◌, ◌-◌, ◌<◌, ◌≤◌, List, [], ◌∷◌, ◌++◌}
-use Rattle.std.proofs.Common.{max, length, take, drop, get_or, ap, ◌∙◌, suc, arith, length-drop, drop-cons}
+use Rattle.std.proofs.Common.{max, length, take, drop, get_or, ap, ◌∙◌, suc, arith, length-append}
+use Rattle.std.proofs.Common.{length-drop, drop-cons}
 use Rattle.std.specs.Prelude.{Some, slice_get, slice_range}
 use Rattle.std.proofs.lemmas.List.{get_or-drop, length-take-le, take_all}
 use Rattle.std.proofs.lemmas.Option.{slice_get_within, get_or_from_slice_get}
@@ -54,5 +55,9 @@ module _ {A : Type 0} where
       get_or-drop a xs (b - 1 - a) x ∙ ap (λ n. get_or xs n x) place ∙ get_or_from_slice_get xs (b - 1) x x is in
       ap (λ n. take n (drop a xs)) more ∙ take-suc (drop a xs) (b - 1 - a) x left
       ∙ ap (λ y. take (b - 1 - a) (drop a xs) ++ y ∷ []) last
+
+  -- there is one less without the last one
+  pub length-less : (xs ys : List A) (x : A) → ys ≡ xs ++ x ∷ [] → length xs < length ys
+  length-less xs ys x is = omega (arith, ap (λ l. length l) is, length-append xs (x ∷ []))
 
 pub ruleset ranges = (range_all, range_front, range_back, range_none, length-range, range_first, range_last)

@@ -4,18 +4,22 @@ use Rattle.std.proofs.Common.{get_or, set, ap, ap₂, sym, ◌∙◌}
 use Rattle.std.proofs.Common.{subst, arith, inl, inr, length-set, refl, true≢false}
 use Rattle.std.specs.Prelude.{◌⊎◌, Bool, IsTrue, Option, None, Some, Result, Ok, Err, MatchResult, false, nat_lt}
 use Rattle.std.specs.Prelude.{slice_get}
+use Rattle.std.specs.List.{remove}
 use Rattle.std.specs.Borrow.{MutBor}
 use Rattle.std.specs.Fn.{Once}
+use Rattle.std.specs.Option.{ForSome}
 use Rattle.std.proofs.lemmas.Bool.{lt-ltb}
+use Rattle.std.proofs.lemmas.Option.{slice_get_read}
 use Rattle.sequence.specs.Changes.{ChangesItem, IsLess, KeepsLabel}
 use Rattle.sequence.specs.declared.tree.search.Spot.{Spot}
 use Rattle.sequence.specs.Spots.{Leads, spliced}
 use Rattle.sequence.specs.declared.tree.Child.{Child}
-use Rattle.sequence.specs.Nodes.{AreChildren, CanLose, IsChild, IsLabelled, first_label, height_in, items_in}
+use Rattle.sequence.specs.Nodes.{AreChildren, CanLose, IsChild, IsLabelled, IsList, first_label}
+use Rattle.sequence.specs.Nodes.{height_in, items_in}
 use Rattle.sequence.proofs.Nodes.Children.{items_split, length-split}
 use Rattle.sequence.proofs.Nodes.Labelled.{first_get, first_set, labelled_at, labelled_by}
 use Rattle.sequence.proofs.Nodes.Placed.{child_here, left_as, put_under, stand_itself}
-use Rattle.sequence.proofs.Lists.Spliced.{get_between, length-spliced, set_spliced}
+use Rattle.sequence.proofs.Lists.Spliced.{get_between, length-spliced, remove_spliced, set_spliced}
 
 -- the second item is the first one of the others
 get_second : {T : Type 0} (es : List T) (second : T) → slice_get es 1 ≡ Some second
@@ -164,6 +168,11 @@ module _ {T L : Type 0} {label_of : T → L} (tree : List T × ℕ) (cs : List (
   pub item_at : slice_get tree.0 at ≡ slice_get d.tree.0 (spot.place - 1)
   item_at = item_under tree cs spot.child d are same leads.within is at (spot.place - 1) spot_place spot_inside
 
+  -- what is asked of the item is asked of it in the child
+  pub asked_below : {P : T → Type 0} → ForSome (slice_get tree.0 at) P
+      → ForSome (slice_get d.tree.0 (spot.place - 1)) P
+  asked_below asked x here = asked x (item_at ∙ here)
+
   pub removed_at : {E : Type 0} (new : Child T L) (r : Result T E)
       → MatchResult r (IsLess label_of (nat_lt 0 spot.child) (spot.place - 1) d new) (λ _. new ≡ d)
       → IsRemoved label_of tree at (set cs spot.child new) r
@@ -197,3 +206,22 @@ module _ {T L : Type 0} {label_of : T → L} (tree : List T × ℕ) (cs : List (
   changed_at g change new r changed keeps =
       changed_under tree cs spot.child d are same leads.within is at (spot.place - 1) spot_place spot_inside g change
       new r changed (λ before here. keeps before (item_at ∙ here))
+
+-- the leaf after that item was taken out of it
+pub removed_leaf : {T : Type 0} (tree : List T × ℕ) (es new : List T) (at : ℕ) (item : T)
+    → ◌≡◌ {A = List T × ℕ} (es, 0) tree → IsList es → 1 < length tree.0 → at < length tree.0
+    → item ≡ get_or es at item → new ≡ remove es at
+    → IsList new × ((slice_get tree.0 at ≡ Some item)
+    × ◌≡◌ {A = List T × ℕ} (new, 0) (spliced at 1 [] tree.0, tree.1))
+removed_leaf {T} tree es new at item same list more there found left =
+    let long = ap (λ (t : List T × ℕ). length t.0) same in
+    let items = left ∙ remove_spliced es at in
+    let many = length-spliced at 1 [] es (omega (arith, there, long)) in
+    let fewer = ap (length {A = T}) items in (
+      record { some = omega (arith, fewer, many, more, long); room = omega (arith, fewer, many, list.room) },
+      (
+        ap (λ (t : List T × ℕ). slice_get t.0 at) (sym same)
+            ∙ slice_get_read es (length es) at item refl (omega (arith, there, long)) found,
+        ap (λ (es : List T). (es, 0)) items ∙ ap (λ (t : List T × ℕ). (spliced at 1 [] t.0, t.1)) same,
+      ),
+    )

@@ -1,9 +1,9 @@
 -- The labels of the children of a branch, and of what stands first under a child.
-use Rattle.std.proofs.Common.{◌≡◌, ◌<◌, ℕ, zero, suc, List, [], ◌∷◌, ◌++◌, length, take, drop, get_or, set}
+use Rattle.std.proofs.Common.{◌≡◌, ◌<◌, ◌≤◌, ℕ, zero, suc, List, [], ◌∷◌, ◌++◌, length, take, drop, get_or, set}
 use Rattle.std.proofs.Common.{ap, refl, sym, ◌∙◌}
 use Rattle.std.proofs.Common.{subst, arith}
 use Rattle.std.specs.Prelude.{Some, Result, Ok, Err, OnErr, OnOk, slice_get}
-use Rattle.std.specs.List.{All}
+use Rattle.std.specs.List.{All, insert}
 use Rattle.std.proofs.lemmas.List.{drop_more}
 use Rattle.std.proofs.lemmas.List.Elements.{All-append, All-drop, All-nil, All-set, All-take}
 use Rattle.std.proofs.lemmas.Nat.{pow_pos}
@@ -83,6 +83,13 @@ module _ {T L : Type 0} (label_of : T → L) where
   pub first_get : (es : List T) (e : T) → slice_get es 0 ≡ Some e → first_label label_of es ≡ Some (label_of e)
   first_get [] e h = absurd (none-some e h)
   first_get (d ∷ es) e h = cc
+
+  -- an item that comes in behind the first
+  pub first_behind : (es : List T) (n : ℕ) (e : T) → (n ≡ 0 → ⊥) → n ≤ length es
+      → first_label label_of (insert es n e) ≡ first_label label_of es
+  first_behind es zero e some h = absurd (some refl)
+  first_behind [] (suc n) e some h = absurd (omega (arith, h))
+  first_behind (d ∷ es) (suc n) e some h = refl
 
 module _ {T L : Type 0} {label_of : T → L} where
   -- a child whose items have the same first one, and whose label is the same

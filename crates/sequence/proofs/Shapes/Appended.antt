@@ -55,3 +55,13 @@ module _ {T L : Type 0} {label_of : T → L} where
             ∙ ap {B = List T × ℕ} (λ (n : ℕ). (items_in cs ++ items_in (d ∷ ds), n))
             (height_is h (cs ++ c ∷ ds) all some);
       }
+
+  -- the same of a list that is said to be both
+  pub both_in : (cs ds all : List (Child T L)) (x : Child T L) (label : L) (n : ℕ) → all ≡ cs ++ ds
+      → AreChildren label_of cs → AreChildren label_of ds → height_in cs ≡ height_in ds
+      → IsList (items_in cs ++ items_in ds) → length cs ≡ n → x ≡ get_or all n x
+      → first_label label_of (items_in ds) ≡ Some label
+      → AreBoth label_of cs ds (set all n (record x { label = label }))
+  both_in cs ds all x label n same are more level list long is first =
+      subst (λ (xs : List (Child T L)). AreBoth label_of cs ds (set xs n (record x { label = label }))) (sym same)
+      (both cs ds x label n are more level list long (is ∙ ap (λ (xs : List (Child T L)). get_or xs n x) same) first)

@@ -4,7 +4,7 @@ use Rattle.std.specs.Fn.{FnOnceTakesAtMut}
 use Rattle.std.proofs.lemmas.Option.{same_Some}
 use Rattle.sequence.specs.Acts.{IsFound}
 use Rattle.sequence.specs.Changes.{KeepsLabel}
-use Rattle.sequence.proofs.Cutting.Acts.{says_changed, says_unchanged}
+use Rattle.sequence.proofs.Cutting.Acts.{says_changed, says_unchanged, still_absent}
 use Rattle.sequence.proofs.labelled.LabelledSequence.change.Goals as goal
 
 pub act-requires-clause-needs : goal.act-requires-clause-needs
@@ -49,3 +49,10 @@ modify_at-requires-clause-keeps g c =
     λ x e. subst (KeepsLabel g.F.FnOnce c.in-Err.act.change g.L.Label.label_of) (same_Some there.item x
     (sym there.is ∙ ap (λ es. slice_get es c.in-Ok-place.at) (sym left) ∙ e))
     (subst (λ f. KeepsLabel g.F.FnOnce f g.L.Label.label_of there.item) back (c.requires.keeps c.in-Ok-place.at there))
+
+pub returns-in-Err-place-clause-absent : goal.returns-in-Err-place-clause-absent
+returns-in-Err-place-clause-absent g c = (
+  c.in-Err.ensures.blocked,
+  still_absent g.C.Seek.is_sought g.C.Cut.is_before
+      c.in-Err-place.field-0 (λ i. (c.in-Err.ensures.back i).cut) c.in-Err.ensures.blocked c.in-Err-place.ensures,
+)

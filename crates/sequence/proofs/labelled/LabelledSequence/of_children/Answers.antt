@@ -26,3 +26,6 @@ returns g c =
 
 pub invariant_of-result : goal.invariant_of-result
 invariant_of-result g c = c.count-len.ensures ∙ ap (λ es. length es) (sym (returns g c))
+
+pub count-len-requires-clause-each : goal.count-len-requires-clause-each
+count-len-requires-clause-each g c i d h = (c.requires.level.each i d h).counted

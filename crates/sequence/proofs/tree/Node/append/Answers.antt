@@ -1,8 +1,8 @@
 -- Two leaves, or two branches that are as high, in one.
-use Rattle.std.proofs.Common.{◌≡◌, ◌∙◌, ap, arith, get_or, length, set, subst, sym}
-use Rattle.std.specs.Prelude.{Some}
-use Rattle.sequence.specs.Nodes.{AreChildren, IsList, items_in, height_in}
-use Rattle.sequence.proofs.Shapes.Appended.{both}
+use Rattle.std.proofs.Common.{◌≡◌, ◌++◌, ◌∙◌, ap, arith, length, subst, sym}
+use Rattle.std.specs.Prelude.{Ok, OnErr, OnOk, Result, Some}
+use Rattle.sequence.specs.Nodes.{IsList, IsNode, seen}
+use Rattle.sequence.proofs.Shapes.Appended.{both_in}
 use Rattle.sequence.proofs.Nodes.Wide.{height_some}
 use Rattle.sequence.proofs.tree.Node.append.Goals as goal
 use Rattle.sequence.proofs.tree.Node.append.Goals.{in-Leaf-Leaf+in_ok-append-in-Leaf-Leaf}
@@ -23,44 +23,54 @@ unreachable-requires g c =
           omega (arith, level, high)
     ]
 
+-- what a call without an error says of its errors
+no_error : {A E : Type 0} (P : Type 0) {a : A} (r : Result A E) → r ≡ Ok a → OnErr r P
+no_error P r is = subst (λ r. OnErr r P) (sym is) tt
+
+-- what it says of its value
+value : {A E : Type 0} (P : Type 0) {a : A} (r : Result A E) → r ≡ Ok a → P → OnOk r P
+value P r is p = subst (λ r. OnOk r P) (sym is) p
+
 pub returns : goal.returns
 returns g c =
     elim c.match-self.branch [
       | in-Leaf-Leaf+in_ok-append-in-Leaf-Leaf w ↦
           let items = w.in_ok-append-in-Leaf-Leaf.ensures.items in
-          let list = rw w.in-Leaf-Leaf.is-1 at (rw w.in-Leaf-Leaf.is-0 at c.requires.list) in
-          rw w.result-is (rw w.self-is record {
-            whole = subst IsList (sym items) list;
-            joined = rw w.in-Leaf-Leaf.is-0 (rw w.in-Leaf-Leaf.is-1 (ap (λ es. (es, 0)) items));
-            same = tt;
-            label = tt;
-            other = tt;
-            refused = tt;
-          })
+          let own = w.in-Leaf-Leaf.is-0 in
+          let other = w.in-Leaf-Leaf.is-1 in
+          let list = subst IsList (λ i. (seen (own i)).0 ++ (seen (other i)).0) c.requires.list in
+          record {
+            whole = subst (IsNode g.L.Label.label_of) (sym w.self-is) (subst IsList (sym items) list);
+            joined = value _ c.match-self.result w.result-is (ap seen w.self-is ∙ ap (λ es. (es, 0)) items
+                ∙ sym (λ i. ((seen (own i)).0 ++ (seen (other i)).0, (seen (own i)).1)));
+            same = no_error _ c.match-self.result w.result-is;
+            label = no_error _ c.match-self.result w.result-is;
+            other = no_error _ c.match-self.result w.result-is;
+            refused = no_error _ c.match-self.result w.result-is;
+          }
       | in-Branch-Branch+in_ok-append-in-Branch-Branch w ↦
           let cs = w.in-Branch-Branch.children.items in
           let ds = w.in-Branch-Branch.more.items in
-          let list = rw w.in-Branch-Branch.is-1 at (rw w.in-Branch-Branch.is-0 at c.requires.list) in
-          let level = rw w.in-Branch-Branch.is-1 at (rw w.in-Branch-Branch.is-0 at c.requires.level) in
-          let are = rw w.in-Branch-Branch.is-0 at c.requires.whole.0 in
-          let more = rw w.in-Branch-Branch.is-1 at c.requires.whole.1 in
-          let items = w.in_ok-append-in-Branch-Branch.ensures.items in
+          let own = w.in-Branch-Branch.is-0 in
+          let other = w.in-Branch-Branch.is-1 in
+          let list = subst IsList (λ i. (seen (own i)).0 ++ (seen (other i)).0) c.requires.list in
+          let level = rw other at (rw own at c.requires.level) in
+          let are = subst (IsNode g.L.Label.label_of) own c.requires.whole.0 in
+          let more = subst (IsNode g.L.Label.label_of) other c.requires.whole.1 in
           let n = w.len-next.result in
           let x = w.index_mut.result.now in
           let l = w.swap.new.x in
           let long : length cs ≡ n = omega (arith, w.len-next.ensures) in
-          let first = rw w.in-Branch-Branch.is-1 at c.requires.label ∙ ap (λ l. Some l) (sym w.swap.ensures.x_after) in
-          let done = both cs ds x l n are more level list long
-          (w.index_mut.ensures.value ∙ ap (λ xs. get_or xs n x) items) first in
-          rw w.result-is (rw w.self-is record {
-            whole = subst (λ xs. AreChildren g.L.Label.label_of (set xs n (record x { label = l }))) (sym items)
-                done.children;
-            joined = rw w.in-Branch-Branch.is-0 (rw w.in-Branch-Branch.is-1
-                (ap (λ xs. let ys = set xs n (record x { label = l }) in (items_in ys, height_in ys)) items
-                ∙ done.same));
-            same = tt;
-            label = tt;
-            other = tt;
-            refused = tt;
-          })
+          let first = rw other at c.requires.label ∙ ap (λ l. Some l) (sym w.swap.ensures.x_after) in
+          let done = both_in cs ds w.append-in-Branch-Branch.new.self.items x l n
+          w.in_ok-append-in-Branch-Branch.ensures.items are more level list long w.index_mut.ensures.value first in
+          record {
+            whole = subst (IsNode g.L.Label.label_of) (sym w.self-is) done.children;
+            joined = value _ c.match-self.result w.result-is (ap seen w.self-is ∙ done.same
+                ∙ sym (λ i. ((seen (own i)).0 ++ (seen (other i)).0, (seen (own i)).1)));
+            same = no_error _ c.match-self.result w.result-is;
+            label = no_error _ c.match-self.result w.result-is;
+            other = no_error _ c.match-self.result w.result-is;
+            refused = no_error _ c.match-self.result w.result-is;
+          }
     ]

@@ -2,6 +2,7 @@
 use Rattle.std.proofs.Common.{◌≡◌, ◌∙◌, ◌+◌, ◌<◌, ◌^◌, ℕ, ap, length, refl, set, subst, sym, true≢false}
 use Rattle.std.proofs.lemmas.Bool.{lt-ltb, or_left, or_right}
 use Rattle.std.specs.Prelude.{Err, IfNone, IfOk, IfSome, IsTrue, Ok, OnErr, Option, Result, is_ok, nat_lt, ◌||◌}
+use Rattle.sequence.specs.declared.tree.Node.{Node}
 use Rattle.sequence.specs.declared.tree.Node.TheVariants.{Branch, Leaf}
 use Rattle.sequence.specs.Acts.{IsActed, OfSought, comes, gone}
 use Rattle.sequence.specs.Cuts.{HasCut, IsCut}
@@ -10,13 +11,18 @@ use Rattle.sequence.proofs.Cutting.Acted.{IsDone, IsUnder, acted_under, among_re
 use Rattle.sequence.proofs.Cutting.Acted.{count_under}
 use Rattle.sequence.proofs.Cutting.Acted.{cut_read, cut_under, leaf_acted, list_acted, lower_under, needs_under}
 use Rattle.sequence.proofs.Cutting.Acted.{not_thin, read_twice, room_under, some_under, spare_under, within_read}
-use Rattle.sequence.proofs.Calls.{both, kept_at, of_five}
+use Rattle.sequence.proofs.Calls.{kept_at}
 use Rattle.sequence.proofs.Nodes.Copied.{IsMade, made}
 use Rattle.sequence.proofs.tree.Tree.+act.Given as given
 use Rattle.sequence.proofs.tree.Tree.+act.Goals as goal
-use Rattle.sequence.proofs.tree.Tree.+act.Goals.{After-act-2, After-act-arg-1, In-Branch, In-Leaf}
+use Rattle.sequence.proofs.tree.Tree.+act.Goals.{After-act-2, After-act-arg-1, In-Branch, In-Leaf, In-Ok}
 use Rattle.sequence.proofs.tree.Tree.+act.Goals.{else-LOSES-via-else-LOSES}
 use Rattle.sequence.proofs.tree.Tree.+act.Goals.{else-LOSES-via-then-LOSES+else-is_thin}
+
+-- the first node of the tree is then what was written there
+written : (g : given.Over) (t : ℕ) (c : In-Ok g t) (node : Node g.row.T.Denot g.row.L.Denot)
+    → c.make_mut.follows.lender node ≡ node
+written g t c node = c.make_mut.follows.holds node (ap (λ r. is_ok r) c.in-Ok.is)
 
 -- the branch is whole, and has what the tree has
 branch : (g : given.Over) (t : ℕ) (c : In-Branch g t)
@@ -114,10 +120,10 @@ act-requires-clause-room g t c =
 
 pub invariant_of-self-in-Leaf : goal.invariant_of-self-in-Leaf
 invariant_of-self-in-Leaf g t c =
-    let leaf = leaf g t (goal.at.invariant_of-self-in-Leaf g t c).In-Leaf in
+    let at = goal.at.invariant_of-self-in-Leaf g t c in
+    let leaf = leaf g t at.In-Leaf in
     let way = g.A.Act.way c.args.act in
-    subst (IsNode g.L.Label.label_of) (sym (c.make_mut.follows.holds (Leaf c.act.new.items)
-    (ap (λ r. is_ok r) c.in-Ok.is)))
+    subst (IsNode g.L.Label.label_of) (sym (written g t at.In-Ok (Leaf c.act.new.items)))
     (list_acted (g.A.Way.Cut.is_before way) (g.A.Act.does c.args.act) g.A.Act.GROWS g.A.Act.LOSES c.in-Leaf.items.items
     c.act.new.items.items c.act.result c.act.ensures.done c.act.ensures.blocked leaf.whole
     (subst (λ t. IsTrue g.A.Act.LOSES → 1 < length t.0) (sym leaf.same) c.requires.spare)
@@ -129,7 +135,7 @@ returns-in-Leaf g t c =
     leaf_acted (g.A.Way.Cut.is_before (g.A.Act.way c.args.act)) (g.A.Act.does c.args.act) g.A.Act.GROWS
     g.A.Act.LOSES g.L.Label.label_of c.args.labelled c.args.self.now _ c.args.act c.in-Leaf.items.items
     c.act.new.items.items c.act.result leaf.same (ap (λ node. seen node)
-    (c.make_mut.follows.holds (Leaf c.act.new.items) (ap (λ r. is_ok r) c.in-Ok.is)))
+    (written g t (goal.at.returns-in-Leaf g t c).In-Ok (Leaf c.act.new.items)))
     c.act.ensures.done c.act.ensures.first c.act.ensures.blocked c.act.ensures.back
 
 pub child_of-at-requires-clause-children : goal.child_of-at-requires-clause-children
@@ -146,13 +152,13 @@ child_of-at-requires-clause-cut g t c =
 
 pub invariant_of-self-then-is_thin : goal.invariant_of-self-then-is_thin
 invariant_of-self-then-is_thin g t c =
-    subst (IsNode g.L.Label.label_of) (sym (c.make_mut.follows.holds (Branch c.in-Branch.children)
-    (ap (λ r. is_ok r) c.in-Ok.is)))
-    (branch g t (goal.at.invariant_of-self-then-is_thin g t c).In-Branch).whole
+    let at = goal.at.invariant_of-self-then-is_thin g t c in
+    subst (IsNode g.L.Label.label_of) (sym (written g t at.In-Ok (Branch c.in-Branch.children)))
+    (branch g t at.In-Branch).whole
 
 pub returns-then-is_thin : goal.returns-then-is_thin
 returns-then-is_thin g t c = (
-  ap (λ node. seen node) (c.make_mut.follows.holds (Branch c.in-Branch.children) (ap (λ r. is_ok r) c.in-Ok.is))
+  ap (λ node. seen node) (written g t (goal.at.returns-then-is_thin g t c).In-Ok (Branch c.in-Branch.children))
       ∙ (branch g t (goal.at.returns-then-is_thin g t c).In-Branch).same,
   refl,
 )
@@ -168,24 +174,16 @@ act-requires-2 g t c κs within =
     let label = g.L.Label.label_of in
     let loses = g.A.Act.LOSES in
     let tree = c.args.self.now in
-    of_five (lower_under label test loses tree cs i d u t c.decreases) within (both c.requires.copies
-    (both (cut_under label test loses tree cs i d u) (both (needs_under label test loses tree cs i d u
-    (g.A.Way.Seek.is_sought (g.A.Act.way c.args.act)) (g.A.Act.needs c.args.act) c.requires.needs)
-    (both (spare_under label test loses tree cs i d u) (room_under label test loses tree cs i d u c.requires.room)))))
-
-pub len_after-child-requires : goal.len_after-child-requires
-len_after-child-requires g t c =
-    let at = goal.at.len_after-child-requires g t c in
-    let u = under g t at.After-act-arg-1 (branch g t at.In-Branch) in
-    let test = g.A.Way.Cut.is_before (g.A.Act.way c.args.act) in
-    let label = g.L.Label.label_of in
-    let cs = c.in-Branch.children.items in
-    let i = c.child_of-at.result in
-    let d = c.index_mut-child.result.now in
-    record {
-      some = some_under label test g.A.Act.LOSES c.args.self.now cs i d u;
-      room = count_under label test g.A.Act.LOSES c.args.self.now cs i d u c.requires.room;
-    }
+    let cut = cut_under label test loses tree cs i d u in
+    let needs = needs_under label test loses tree cs i d u (g.A.Way.Seek.is_sought (g.A.Act.way c.args.act))
+    (g.A.Act.needs c.args.act) c.requires.needs in
+    let spare = spare_under label test loses tree cs i d u in
+    let room = room_under label test loses tree cs i d u c.requires.room in
+    let copies = c.requires.copies in
+    let types = within.1 in (
+      lower_under label test loses tree cs i d u t c.decreases,
+      (within.0, (types.0, (types.1.0, (types.1.1.0, (types.1.1.1, (copies, (cut, (needs, (spare, room))))))))),
+    )
 
 -- the branch after the act on the child, by what it answers
 after : (g : given.Over) (t : ℕ) (c : After-act-2 g t)
@@ -227,7 +225,7 @@ pub invariant_of-self-in_err-gone : goal.invariant_of-self-in_err-gone
 invariant_of-self-in_err-gone g t c =
     let at = goal.at.invariant_of-self-in_err-gone g t c in
     let u = under g t at.After-act-arg-1 (branch g t at.In-Branch) in
-    subst (IsNode g.L.Label.label_of) (sym (c.make_mut.follows.holds _ (ap (λ r. is_ok r) c.in-Ok.is)))
+    subst (IsNode g.L.Label.label_of) (sym (written g t at.In-Ok _))
     (left g t at.After-act-2 u c.in_err-gone.ensures.0).whole
 
 pub returns-in_err-gone : goal.returns-in_err-gone
@@ -236,7 +234,7 @@ returns-in_err-gone g t c =
     let u = under g t at.After-act-arg-1 (branch g t at.In-Branch) in
     branch_left (g.A.Way.Cut.is_before (g.A.Act.way c.args.act)) (g.A.Act.does c.args.act) g.A.Act.GROWS
     g.A.Act.LOSES g.L.Label.label_of c.args.labelled c.args.self.now _ c.args.act c.from_residual.result
-    c.in_err-gone.field-0.0 _ (ap (λ node. seen node) (c.make_mut.follows.holds _ (ap (λ r. is_ok r) c.in-Ok.is)))
+    c.in_err-gone.field-0.0 _ (ap (λ node. seen node) (written g t at.In-Ok _))
     (left g t at.After-act-2 u c.in_err-gone.ensures.0) c.from_residual.ensures.1 c.in_err-gone.ensures.1
 
 pub invariant_of-self-2 : goal.invariant_of-self-2
@@ -246,7 +244,7 @@ invariant_of-self-2 g t c =
     let did = c.in_ok-gone.ensures in
     let done = after g t at.After-act-2 u c.len_after-child.result (Ok c.in_ok-gone.gone) did.acted tt
     c.len_after-child.ensures tt did.height did.first in
-    subst (IsNode g.L.Label.label_of) (sym (c.make_mut.follows.holds _ (ap (λ r. is_ok r) c.in-Ok.is))) done.whole
+    subst (IsNode g.L.Label.label_of) (sym (written g t at.In-Ok _)) done.whole
 
 pub returns : goal.returns
 returns g t c =
@@ -257,4 +255,18 @@ returns g t c =
     c.len_after-child.ensures tt did.height did.first in
     branch_acted (g.A.Way.Cut.is_before (g.A.Act.way c.args.act)) (g.A.Act.does c.args.act) g.A.Act.GROWS
     g.A.Act.LOSES g.L.Label.label_of c.args.labelled c.args.self.now _ _ c.in_ok-gone.gone (ap (λ node. seen node)
-    (c.make_mut.follows.holds _ (ap (λ r. is_ok r) c.in-Ok.is))) done
+    (written g t at.In-Ok _)) done
+
+pub len_after-child-requires-clause-some : goal.len_after-child-requires-clause-some
+len_after-child-requires-clause-some g t c =
+    let at = goal.at.len_after-child-requires-clause-some g t c in
+    let u = under g t at.After-act-arg-1 (branch g t at.In-Branch) in
+    some_under g.L.Label.label_of (g.A.Way.Cut.is_before (g.A.Act.way c.args.act)) g.A.Act.LOSES c.args.self.now
+    c.in-Branch.children.items c.child_of-at.result c.index_mut-child.result.now u
+
+pub len_after-child-requires-clause-room : goal.len_after-child-requires-clause-room
+len_after-child-requires-clause-room g t c =
+    let at = goal.at.len_after-child-requires-clause-room g t c in
+    let u = under g t at.After-act-arg-1 (branch g t at.In-Branch) in
+    count_under g.L.Label.label_of (g.A.Way.Cut.is_before (g.A.Act.way c.args.act)) g.A.Act.LOSES c.args.self.now
+    c.in-Branch.children.items c.child_of-at.result c.index_mut-child.result.now u c.requires.room

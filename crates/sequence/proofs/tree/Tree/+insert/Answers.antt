@@ -1,18 +1,24 @@
 -- The branch takes the piece in under one child.
 use Rattle.std.proofs.Common.{◌≡◌, ◌+◌, ◌<◌, ◌≤◌, ◌^◌, ◌⊎◌, ◌∙◌, ℕ, ap, length, refl, set, subst, sym}
 use Rattle.std.specs.Prelude.{Err, IfErr, Ok, OnOk, Result, is_ok}
+use Rattle.sequence.specs.declared.tree.Node.{Node}
 use Rattle.sequence.specs.declared.tree.Node.TheVariants.{Branch, Leaf}
 use Rattle.sequence.specs.Nodes.{AreChildren, IsChild, IsNode, height_in, items_in, seen}
 use Rattle.sequence.specs.Pieces.{Fits, items_of, part_of}
 use Rattle.sequence.specs.Spots.{Leads, spliced}
-use Rattle.sequence.proofs.Calls.{both, kept_at, of_two}
+use Rattle.sequence.proofs.Calls.{kept_at}
 use Rattle.sequence.proofs.Nodes.Copied.{IsMade, made}
 use Rattle.sequence.proofs.Nodes.Ended.{IsEnded}
 use Rattle.sequence.proofs.Pieces.{IsIn, count_in, counts, fits_in, is_here, items_here, lower_in, part_here, put_back}
 use Rattle.sequence.proofs.Pieces.{put_in, put_under_it, room_in, same_part, within_in}
 use Rattle.sequence.proofs.tree.Tree.+insert.Given as given
 use Rattle.sequence.proofs.tree.Tree.+insert.Goals as goal
-use Rattle.sequence.proofs.tree.Tree.+insert.Goals.{After-insert, After-insert-arg-1, In-Branch, In-Leaf}
+use Rattle.sequence.proofs.tree.Tree.+insert.Goals.{After-insert, After-insert-arg-1, In-Branch, In-Leaf, In-Ok}
+
+-- the first node of the tree is then what was written there
+written : (g : given.Over) (t : ℕ) (c : In-Ok g t) (node : Node g.row.T.Denot g.row.L.Denot)
+    → c.make_mut.follows.lender node ≡ node
+written g t c node = c.make_mut.follows.holds node (ap (λ r. is_ok r) c.in-Ok.is)
 
 -- the branch is whole, and has what the tree has
 branch : (g : given.Over) (t : ℕ) (c : In-Branch g t)
@@ -78,8 +84,9 @@ insert_in_leaf-requires-clause-room g t c =
 
 pub invariant_of-self-in-Leaf : goal.invariant_of-self-in-Leaf
 invariant_of-self-in-Leaf g t c =
-    subst (IsNode g.L.Label.label_of) (sym (c.make_mut.follows.holds (Leaf c.insert_in_leaf.new.items)
-    (ap (λ r. is_ok r) c.in-Ok.is))) c.insert_in_leaf.ensures.list
+    let at = goal.at.invariant_of-self-in-Leaf g t c in
+    subst (IsNode g.L.Label.label_of) (sym (written g t at.In-Ok (Leaf c.insert_in_leaf.new.items)))
+    c.insert_in_leaf.ensures.list
 
 pub returns-in-Leaf : goal.returns-in-Leaf
 returns-in-Leaf g t c =
@@ -87,11 +94,21 @@ returns-in-Leaf g t c =
     let did = c.insert_in_leaf.ensures in
     put_in c.args.place (items_of c.args.piece) (part_of c.args.piece) c.args.self.now _ c.in-Leaf.items.items
     c.insert_in_leaf.new.items.items 0 0 c.insert_in_leaf.result leaf.same (ap (λ node. seen node)
-    (c.make_mut.follows.holds (Leaf c.insert_in_leaf.new.items) (ap (λ r. is_ok r) c.in-Ok.is))) refl did.items
+    (written g t (goal.at.returns-in-Leaf g t c).In-Ok (Leaf c.insert_in_leaf.new.items))) refl did.items
     did.refused did.back
+
+pub index_mut-child-requires : goal.index_mut-child-requires
+index_mut-child-requires g t c =
+    let cs = c.room_under.new.children in
+    let leads = c.in-Ok-room_under.ensures.leads c.args.place
+    (subst (λ cs. Leads cs c.args.place c.spot_of.result) c.deref.ensures.value c.spot_of.ensures) in
+    subst (λ n. c.in-Ok-room_under.spot.child < n) (sym cs.ok.0) leads.within
 
 pub len-more-requires : goal.len-more-requires
 len-more-requires g t c = counts g.L.Label.label_of c.args.piece c.args.place c.args.self.now c.requires.fits
+
+pub beside-requires-clause-copies : goal.beside-requires-clause-copies
+beside-requires-clause-copies g t c = c.requires.copies
 
 pub beside-requires-clause-children : goal.beside-requires-clause-children
 beside-requires-clause-children g t c = (branch g t (goal.at.beside-requires-clause-children g t c).In-Branch).whole
@@ -124,8 +141,9 @@ beside-requires-clause-room g t c =
 
 pub invariant_of-self-in-Err : goal.invariant_of-self-in-Err
 invariant_of-self-in-Err g t c =
-    subst (IsNode g.L.Label.label_of) (sym (c.make_mut.follows.holds (Branch c.beside.new.children)
-    (ap (λ r. is_ok r) c.in-Ok.is))) c.beside.ensures.children
+    let at = goal.at.invariant_of-self-in-Err g t c in
+    subst (IsNode g.L.Label.label_of) (sym (written g t at.In-Ok (Branch c.beside.new.children)))
+    c.beside.ensures.children
 
 pub returns-in-Err : goal.returns-in-Err
 returns-in-Err g t c =
@@ -135,7 +153,7 @@ returns-in-Err g t c =
     put_in c.args.place (items_of c.args.piece) (part_of c.args.piece) c.args.self.now _
     (items_in c.in-Branch.children.items) (items_in c.beside.new.children.items)
     (height_in c.in-Branch.children.items) (height_in c.beside.new.children.items) c.beside.result node.same
-    (ap (λ node. seen node) (c.make_mut.follows.holds (Branch c.beside.new.children) (ap (λ r. is_ok r) c.in-Ok.is)))
+    (ap (λ node. seen node) (written g t (goal.at.returns-in-Err g t c).In-Ok (Branch c.beside.new.children)))
     did.height
     (subst (λ es. OnOk c.beside.result (items_in c.beside.new.children.items ≡ spliced c.args.place 0 es
     (items_in c.in-Branch.children.items))) (sym (items_here g.L.Label.label_of c.args.piece c.in-Err.child here))
@@ -154,6 +172,9 @@ spot_of-requires-clause-within g t c =
     subst (λ cs. c.args.place ≤ length (items_in cs)) (sym c.deref.ensures.value)
     (subst (λ tree. c.args.place ≤ length tree.0) (sym node.same) c.requires.within)
 
+pub room_under-requires-clause-copies : goal.room_under-requires-clause-copies
+room_under-requires-clause-copies g t c = c.requires.copies
+
 pub room_under-requires-clause-children : goal.room_under-requires-clause-children
 room_under-requires-clause-children g t c =
     (branch g t (goal.at.room_under-requires-clause-children g t c).In-Branch).whole
@@ -164,25 +185,20 @@ room_under-requires-clause-within g t c =
 
 pub invariant_of-self-in_default-room_under : goal.invariant_of-self-in_default-room_under
 invariant_of-self-in_default-room_under g t c =
-    subst (IsNode g.L.Label.label_of) (sym (c.make_mut.follows.holds (Branch c.room_under.new.children)
-    (ap (λ r. is_ok r) c.in-Ok.is))) c.in_default-room_under.ensures.same.children
+    let at = goal.at.invariant_of-self-in_default-room_under g t c in
+    subst (IsNode g.L.Label.label_of) (sym (written g t at.In-Ok (Branch c.room_under.new.children)))
+    c.in_default-room_under.ensures.same.children
 
 pub returns-in_default-room_under : goal.returns-in_default-room_under
 returns-in_default-room_under g t c =
-    let node = branch g t (goal.at.returns-in_default-room_under g t c).In-Branch in
+    let at = goal.at.returns-in_default-room_under g t c in
+    let node = branch g t at.In-Branch in
     let same = c.in_default-room_under.ensures.same in (
-      ap (λ node. seen node) (c.make_mut.follows.holds (Branch c.room_under.new.children)
-          (ap (λ r. is_ok r) c.in-Ok.is)) ∙ (λ i. (same.items i, same.height i)) ∙ node.same,
+      ap (λ node. seen node) (written g t at.In-Ok (Branch c.room_under.new.children))
+          ∙ (λ i. (same.items i, same.height i)) ∙ node.same,
       c.into_part-in_default-room_under.ensures
           ∙ same_part c.args.piece c.in-Ok-under.piece c.in-Ok-under.ensures,
     )
-
-pub index_mut-child-requires : goal.index_mut-child-requires
-index_mut-child-requires g t c =
-    let cs = c.room_under.new.children in
-    let leads = c.in-Ok-room_under.ensures.leads c.args.place
-    (subst (λ cs. Leads cs c.args.place c.spot_of.result) c.deref.ensures.value c.spot_of.ensures) in
-    subst (λ n. c.in-Ok-room_under.spot.child < n) (sym cs.ok.0) leads.within
 
 pub insert-requires : goal.insert-requires
 insert-requires g t c κs within =
@@ -194,10 +210,12 @@ insert-requires g t c κs within =
     let cs = c.room_under.new.children.items in
     let spot = c.in-Ok-room_under.spot in
     let d = c.index_mut-child.result.now in
-    of_two (lower_in label piece next c.args.place c.args.self.now cs spot d u t c.decreases) within
-    (both c.requires.copies (both (within_in label piece next c.args.place c.args.self.now cs spot d u)
-    (both (fits_in label piece next c.args.place c.args.self.now cs spot d u)
-    (room_in label piece next c.args.place c.args.self.now cs spot d u))))
+    let inside = within_in label piece next c.args.place c.args.self.now cs spot d u in
+    let fits = fits_in label piece next c.args.place c.args.self.now cs spot d u in
+    let room = room_in label piece next c.args.place c.args.self.now cs spot d u in (
+      lower_in label piece next c.args.place c.args.self.now cs spot d u t c.decreases,
+      (within.0, (within.1, (c.requires.copies, (inside, (fits, room))))),
+    )
 
 pub overflow_add-child : goal.overflow_add-child
 overflow_add-child g t c =
@@ -240,7 +258,7 @@ pub invariant_of-self-in_err-insert : goal.invariant_of-self-in_err-insert
 invariant_of-self-in_err-insert g t c =
     let at = goal.at.invariant_of-self-in_err-insert g t c in
     let u = under g t at.After-insert-arg-1 (branch g t at.In-Branch) in
-    subst (IsNode g.L.Label.label_of) (sym (c.make_mut.follows.holds _ (ap (λ r. is_ok r) c.in-Ok.is)))
+    subst (IsNode g.L.Label.label_of) (sym (written g t at.In-Ok _))
     (left g t at.After-insert c.in_err-insert.ensures.0 u).whole
 
 pub returns-in_err-insert : goal.returns-in_err-insert
@@ -249,7 +267,7 @@ returns-in_err-insert g t c =
     let u = under g t at.After-insert-arg-1 (branch g t at.In-Branch) in
     let left = left g t at.After-insert c.in_err-insert.ensures.0 u in
     put_back c.args.place (items_of c.args.piece) (part_of c.args.piece) c.args.self.now _ c.from_residual.result
-    c.in_err-insert.field-0.0 (ap (λ node. seen node) (c.make_mut.follows.holds _ (ap (λ r. is_ok r) c.in-Ok.is))
+    c.in_err-insert.field-0.0 (ap (λ node. seen node) (written g t at.In-Ok _)
     ∙ (λ i. (left.refused i, left.height i))) c.from_residual.ensures.1
     (c.in_err-insert.ensures.1 ∙ same_part c.args.piece c.in-Ok-under.piece c.in-Ok-under.ensures)
 
@@ -257,7 +275,7 @@ pub invariant_of-self-2 : goal.invariant_of-self-2
 invariant_of-self-2 g t c =
     let at = goal.at.invariant_of-self-2 g t c in
     let u = under g t at.After-insert-arg-1 (branch g t at.In-Branch) in
-    subst (IsNode g.L.Label.label_of) (sym (c.make_mut.follows.holds _ (ap (λ r. is_ok r) c.in-Ok.is)))
+    subst (IsNode g.L.Label.label_of) (sym (written g t at.In-Ok _))
     (done g t at.After-insert u c.in_ok-insert.ensures).whole
 
 pub returns : goal.returns
@@ -265,5 +283,5 @@ returns g t c =
     let at = goal.at.returns g t c in
     let u = under g t at.After-insert-arg-1 (branch g t at.In-Branch) in
     let done = done g t at.After-insert u c.in_ok-insert.ensures in
-    ap (λ node. seen node) (c.make_mut.follows.holds _ (ap (λ r. is_ok r) c.in-Ok.is))
+    ap (λ node. seen node) (written g t at.In-Ok _)
     ∙ (λ i. (done.items i, done.height i))

@@ -1,15 +1,16 @@
 -- The item is changed in the child that has it.
-use Rattle.std.proofs.Common.{◌∙◌, ℕ, ap, arith, length, length-set, refl, set, subst, sym}
-use Rattle.std.specs.Prelude.{IsOk, slice_get}
+use Rattle.std.proofs.Common.{◌≡◌, ◌∙◌, ℕ, ap, arith, length, length-set, refl, set, subst, sym}
+use Rattle.std.specs.Prelude.{IsOk, Some, is_ok, slice_get}
 use Rattle.std.proofs.lemmas.Option.{slice_get_read}
+use Rattle.std.proofs.lemmas.Result.{MatchResult-from_err}
 use Rattle.sequence.specs.declared.tree.Node.TheVariants.{Branch, Leaf}
-use Rattle.sequence.specs.Nodes.{AreChildren}
-use Rattle.sequence.proofs.Calls.{both, of_four}
-use Rattle.sequence.proofs.Nodes.Changed.{IsChanged, changed_at, item_at, spot_inside}
+use Rattle.sequence.specs.Nodes.{AreChildren, IsNode, items_in, seen}
+use Rattle.sequence.proofs.Calls.{kept_at}
+use Rattle.sequence.proofs.Nodes.Changed.{IsChanged, asked_below, changed_at, spot_inside}
 use Rattle.sequence.proofs.Nodes.Copied.{IsMade, made}
 use Rattle.sequence.proofs.tree.Tree.+modify.Given as given
 use Rattle.sequence.proofs.tree.Tree.+modify.Goals as goal
-use Rattle.sequence.proofs.tree.Tree.+modify.Goals.{After-modify, In-Branch, In-Leaf}
+use Rattle.sequence.proofs.tree.Tree.+modify.Goals.{After-index_mut, After-modify, In-Branch, In-Leaf}
 
 -- the branch is whole, and has what the tree has
 branch : (g : given.Over) (t : ℕ) (c : In-Branch g t)
@@ -25,15 +26,41 @@ leaf g t c =
     rw c.in-Leaf.is at (made g.L.Label.label_of c.args.self.now c.self.inside.root c.in_ok-items.field-0.now
     c.self.invariant c.self.view_is c.in_ok-items.ensures.value c.requires.copies)
 
-pub index_mut-requires : goal.index_mut-requires
-index_mut-requires g t c =
-    let node = leaf g t (goal.at.index_mut-requires g t c).In-Leaf in
-    omega (arith, ap (λ t. length t.0) node.same, c.requires.there)
+-- the item there is the one that the leaf lends
+found : (g : given.Over) (t : ℕ) (c : After-index_mut g t)
+    → slice_get c.args.self.now.0 c.args.index ≡ Some c.index_mut.result.now
+found g t c =
+    let node = rw c.in-Leaf.is at (made g.L.Label.label_of c.args.self.now c.self.inside.root
+    c.in_ok-items.field-0.now c.self.invariant c.self.view_is c.in_ok-items.ensures.value c.requires.copies) in
+    let same = ap (λ t. t.0) node.same in
+    let es = c.in-Leaf.items.items in
+    let at = c.args.index in
+    ap (λ es. slice_get es at) (sym same) ∙ slice_get_read es (length es) at c.index_mut.result.now refl
+    (omega (arith, ap (λ es. length es) same, c.requires.there)) c.index_mut.ensures.value
+
+pub change-requires : goal.change-requires
+change-requires g t c =
+    c.requires.callable c.index_mut.result.now (found g t (goal.at.change-requires g t c).After-index_mut)
+    c.index_mut.result refl
+
+pub overflow_add-index : goal.overflow_add-index
+overflow_add-index g t c =
+    let node = branch g t (goal.at.overflow_add-index g t c).In-Branch in
+    omega (arith, ap (λ t. length t.0) node.same, node.whole.list.room, c.requires.there)
+
+pub spot_of-spot-requires-clause-within : goal.spot_of-spot-requires-clause-within
+spot_of-spot-requires-clause-within g t c =
+    let node = branch g t (goal.at.spot_of-spot-requires-clause-within g t c).In-Branch in
+    let long = ap (λ cs. length (items_in cs)) c.deref.ensures.value in
+    omega (arith, long, ap (λ t. length t.0) node.same, c.requires.there)
+
+pub overflow_sub-spot : goal.overflow_sub-spot
+overflow_sub-spot g t c = c.spot_of-spot.ensures.inner (omega (arith))
 
 pub invariant_of-self-in-Leaf : goal.invariant_of-self-in-Leaf
 invariant_of-self-in-Leaf g t c =
     let node = leaf g t (goal.at.invariant_of-self-in-Leaf g t c).In-Leaf in
-    let ok : IsOk c.make_mut.result = subst IsOk (sym c.in_ok-items.was) refl in
+    let ok : IsOk c.make_mut.result = ap (λ r. is_ok r) c.in_ok-items.was in
     let many = length-set c.in-Leaf.items.items c.args.index c.change.new.arg2 in
     rw c.make_mut.follows.holds (record {
       some = omega (arith, many, node.whole.some);
@@ -43,8 +70,7 @@ invariant_of-self-in-Leaf g t c =
 pub returns-in-Leaf : goal.returns-in-Leaf
 returns-in-Leaf g t c =
     let node = leaf g t (goal.at.returns-in-Leaf g t c).In-Leaf in
-    let ok : IsOk c.make_mut.result = subst IsOk (sym c.in_ok-items.was) refl in
-    let es = c.in-Leaf.items.items in
+    let ok : IsOk c.make_mut.result = ap (λ r. is_ok r) c.in_ok-items.was in
     let at = c.args.index in
     let same = ap (λ t. t.0) node.same in
     let after = c.change.new.arg2 in
@@ -52,19 +78,12 @@ returns-in-Leaf g t c =
       record {
         before = c.index_mut.result.now;
         after = after;
-        found = ap (λ es. slice_get es at) (sym same)
-            ∙ slice_get_read es (length es) at c.index_mut.result.now refl
-            (omega (arith, ap (λ es. length es) same, c.requires.there)) c.index_mut.ensures.value;
+        found = found g t (goal.at.returns-in-Leaf g t c).After-index_mut;
         called = record { shown = _; shows = refl; left = _; met = c.change.ensures; leaves = refl };
         items = ap (λ es. set es at after) same;
       },
       ap (λ t. t.1) node.same,
     )
-
-pub index_mut-requires-2 : goal.index_mut-requires-2
-index_mut-requires-2 g t c =
-    let leads = rw c.deref.ensures.value at c.spot_of-spot.ensures in
-    omega (arith, leads.within)
 
 pub spot_of-spot-requires-clause-children : goal.spot_of-spot-requires-clause-children
 spot_of-spot-requires-clause-children g t c =
@@ -73,19 +92,21 @@ spot_of-spot-requires-clause-children g t c =
 
 pub modify-requires : goal.modify-requires
 modify-requires g t c κs within =
+    let tree = c.args.self.now in
     let node = branch g t (goal.at.modify-requires g t c).In-Branch in
     let cs = c.in-Branch.children.items in
     let spot = c.spot_of-spot.result in
     let leads = rw c.deref.ensures.value at c.spot_of-spot.ensures in
     let d = c.index_mut-2.result.now in
     let is = c.index_mut-2.ensures.value in
-    let same = item_at c.args.self.now cs spot d node.whole node.same c.args.index leads is in
     let high = ap (λ child. child.tree.1) is in
     let level = (node.whole.each spot.child d leads.within).level in
-    let there = spot_inside c.args.self.now cs spot d node.whole node.same c.args.index leads is in
-    of_four (omega (arith, c.decreases, ap (λ t. t.1) node.same, high, level)) within
-    (both c.requires.copies (both there
-    (both (λ x e. c.requires.callable x (same ∙ e)) (λ x e. c.requires.keeps x (same ∙ e)))))
+    let there = spot_inside tree cs spot d node.whole node.same c.args.index leads is in
+    let callable = asked_below tree cs spot d node.whole node.same c.args.index leads is c.requires.callable in
+    let keeps = asked_below tree cs spot d node.whole node.same c.args.index leads is c.requires.keeps in (
+      omega (arith, c.decreases, ap (λ t. t.1) node.same, high, level),
+      (within.0, (within.1.0, (within.1.1.0, (within.1.1.1, (c.requires.copies, (there, (callable, keeps))))))),
+    )
 
 -- the branch then
 done : (g : given.Over) (t : ℕ) (c : After-modify g t)
@@ -100,12 +121,23 @@ done g t c node =
 
 pub invariant_of-self-2 : goal.invariant_of-self-2
 invariant_of-self-2 g t c =
-    let ok : IsOk c.make_mut.result = subst IsOk (sym c.in_ok-items.was) refl in
+    let ok : IsOk c.make_mut.result = ap (λ r. is_ok r) c.in_ok-items.was in
     let at = goal.at.invariant_of-self-2 g t c in
     rw c.make_mut.follows.holds ((done g t at.After-modify (branch g t at.In-Branch)).whole)
 
 pub returns : goal.returns
 returns g t c =
-    let ok : IsOk c.make_mut.result = subst IsOk (sym c.in_ok-items.was) refl in
+    let ok : IsOk c.make_mut.result = ap (λ r. is_ok r) c.in_ok-items.was in
     let at = goal.at.returns g t c in
     rw c.make_mut.follows.holds ((done g t at.After-modify (branch g t at.In-Branch)).done)
+
+pub invariant_of-self : goal.invariant_of-self
+invariant_of-self g t c =
+    subst (IsNode g.L.Label.label_of) (sym (kept_at c.make_mut.result c.in_err-items.field-0.0 c.in_err-items.was
+    c.make_mut.follows.holds-at-none)) c.self.invariant
+
+pub returns-in_err-items : goal.returns-in_err-items
+returns-in_err-items g t c =
+    MatchResult-from_err c.from_residual.result _ _ c.from_residual.ensures.0
+    (λ _. ap (λ node. seen node) (kept_at c.make_mut.result c.in_err-items.field-0.0 c.in_err-items.was
+    c.make_mut.follows.holds-at-none) ∙ c.self.view_is)

@@ -1,12 +1,14 @@
 -- The item goes out of the child at that end.
-use Rattle.std.proofs.Common.{◌≡◌, ◌-◌, ◌<◌, ◌+◌, ◌∙◌, ℕ, ap, arith, length, refl, rules, set, subst, sym}
+use Rattle.std.proofs.Common.{◌≡◌, ◌-◌, ◌<◌, ◌∙◌, ℕ, ap, arith, length, set, subst, sym}
+use Rattle.std.proofs.lemmas.List.{get_or_default}
 use Rattle.std.proofs.lemmas.Nat.{pow_pos}
-use Rattle.std.specs.Prelude.{IsOk, MatchResult, OnErr, OnOk}
+use Rattle.std.proofs.lemmas.Result.{MatchResult-from_err}
+use Rattle.std.specs.Prelude.{IsOk, MatchResult, is_ok}
 use Rattle.sequence.specs.Changes.{IsPopped}
-use Rattle.sequence.specs.Nodes.{AreChildren, IsList, height_in, items_in}
+use Rattle.sequence.specs.Nodes.{AreChildren, IsList, IsNode, height_in, items_in, seen}
 use Rattle.sequence.specs.Spots.{place_at}
 use Rattle.sequence.specs.declared.tree.Node.TheVariants.{Branch}
-use Rattle.sequence.proofs.Calls.{both, of_two}
+use Rattle.sequence.proofs.Calls.{kept_at, one_less}
 use Rattle.sequence.proofs.Cutting.Acts.{read_again}
 use Rattle.sequence.proofs.Nodes.Copied.{IsMade, made}
 use Rattle.sequence.proofs.Nodes.Ended.{MakeUp, at_most_one, can_lose, leaf_gone, popped_leaf, popped_under}
@@ -23,16 +25,35 @@ branch g t c =
     rw c.in-Branch.is at (made g.L.Label.label_of c.args.self.now c.self.inside.root c.in_ok-items.field-0.now
     c.self.invariant c.self.view_is c.in_ok-items.ensures.value c.requires.copies)
 
+pub invariant_of-self : goal.invariant_of-self
+invariant_of-self g t c =
+    subst (IsNode g.L.Label.label_of) (sym (kept_at c.make_mut.result c.in_err-items.field-0.0 c.in_err-items.was
+    c.make_mut.follows.holds-at-none)) c.self.invariant
+
+pub returns-in_err-items : goal.returns-in_err-items
+returns-in_err-items g t c =
+    MatchResult-from_err c.from_residual.result _ _ c.from_residual.ensures.0
+    (λ _. ap (λ node. seen node) (kept_at c.make_mut.result c.in_err-items.field-0.0 c.in_err-items.was
+    c.make_mut.follows.holds-at-none) ∙ c.self.view_is)
+
+pub pop_leaf-requires-clause-within : goal.pop_leaf-requires-clause-within
+pop_leaf-requires-clause-within g t c = omega (arith, c.place-at.ensures.within, c.len-2.ensures)
+
+pub pop_leaf-requires-clause-one : goal.pop_leaf-requires-clause-one
+pop_leaf-requires-clause-one g t c d =
+    let node = branch g t (goal.at.pop_leaf-requires-clause-one g t c).In-Branch in
+    let cs = c.in-Branch.children.items in
+    let i = c.place-at.result in
+    let e = c.index.result.now in
+    let h : i < length cs = omega (arith, c.place-at.ensures.within, c.len-2.ensures) in
+    let same = c.index.ensures ∙ get_or_default cs i e d h in
+    let counted = (child_here cs i e node.whole h c.index.ensures).counted in
+    omega (arith, counted, c.if-index-eq1.true, ap (λ child. length child.tree.0) same)
+
 pub place-at-requires : goal.place-at-requires
 place-at-requires g t c =
     let node = branch g t (goal.at.place-at-requires g t c).In-Branch in
     omega (arith, some_in c.in-Branch.children.items node.whole, c.len-2.ensures)
-
-pub index-requires : goal.index-requires
-index-requires g t c = omega (arith, c.place-at.ensures.within, c.len-2.ensures)
-
-pub index_mut-child-requires : goal.index_mut-child-requires
-index_mut-child-requires g t c = omega (arith, c.place-at.ensures.within, c.len-2.ensures)
 
 pub overflow_sub-child : goal.overflow_sub-child
 overflow_sub-child g t c =
@@ -55,9 +76,11 @@ pop-popped-requires g t c κs within =
     let seen = read_again cs i c.index.result.now (omega (arith, h)) c.index.ensures d is in
     let child = child_here cs i d node.whole h is in
     let level = (node.whole.each i d h).level in
-    of_two (omega (arith, c.decreases, ap (λ t. t.1) node.same, ap (λ child. child.tree.1) is, level)) within
-    (both c.requires.copies
-    (omega (arith, child.counted, child.wide, pow_pos d.tree.1, c.if-index-eq1.false, ap (λ c. c.len) seen)))
+    let some : 1 < length d.tree.0 =
+    omega (arith, child.counted, child.wide, pow_pos d.tree.1, c.if-index-eq1.false, ap (λ c. c.len) seen) in (
+      omega (arith, c.decreases, ap (λ t. t.1) node.same, ap (λ child. child.tree.1) is, level),
+      (within.0, (within.1, (c.requires.copies, some))),
+    )
 
 -- the item, and the leaf then
 leaf : (g : given.Over) (t : ℕ) (c : After-pop_in_leaf g t)
@@ -72,28 +95,29 @@ leaf g t c =
 
 pub invariant_of-self-in-Leaf : goal.invariant_of-self-in-Leaf
 invariant_of-self-in-Leaf g t c =
-    let ok : IsOk c.make_mut.result = subst IsOk (sym c.in_ok-items.was) refl in
+    let ok : IsOk c.make_mut.result = ap (λ r. is_ok r) c.in_ok-items.was in
     rw c.make_mut.follows.holds ((leaf g t (goal.at.invariant_of-self-in-Leaf g t c).After-pop_in_leaf).0)
 
 pub returns-in-Leaf : goal.returns-in-Leaf
 returns-in-Leaf g t c =
-    let ok : IsOk c.make_mut.result = subst IsOk (sym c.in_ok-items.was) refl in
+    let ok : IsOk c.make_mut.result = ap (λ r. is_ok r) c.in_ok-items.was in
     rw c.make_mut.follows.holds ((leaf g t (goal.at.returns-in-Leaf g t c).After-pop_in_leaf).1)
 
 pub invariant_of-self-then-len-least : goal.invariant_of-self-then-len-least
 invariant_of-self-then-len-least g t c =
-    let ok : IsOk c.make_mut.result = subst IsOk (sym c.in_ok-items.was) refl in
+    let ok : IsOk c.make_mut.result = ap (λ r. is_ok r) c.in_ok-items.was in
     let node = branch g t (goal.at.invariant_of-self-then-len-least g t c).In-Branch in
     rw c.make_mut.follows.holds node.whole
 
 pub returns-then-len-least : goal.returns-then-len-least
 returns-then-len-least g t c =
-    let ok : IsOk c.make_mut.result = subst IsOk (sym c.in_ok-items.was) refl in
+    let ok : IsOk c.make_mut.result = ap (λ r. is_ok r) c.in_ok-items.was in
     let node = branch g t (goal.at.returns-then-len-least g t c).In-Branch in
     rw c.make_mut.follows.holds node.same
 
 -- the item, and the children then
 done : (g : given.Over) (t : ℕ) (c : After-from g t)
+    → IsMade g.L.Label.label_of c.args.self.now (Branch c.in-Branch.children)
     → let d = c.index_mut-child.result.now in
     let cs = set c.in-Branch.children.items c.place-at.result (record d {
       len = d.len - c.from.result;
@@ -101,10 +125,7 @@ done : (g : given.Over) (t : ℕ) (c : After-from g t)
     }) in
     AreChildren g.L.Label.label_of cs × MatchResult c.pop-popped.result
     (IsPopped c.args.end c.args.least c.args.self.now (items_in cs, height_in cs)) (λ _. MakeUp cs c.args.self.now)
-done g t c =
-    let node = rw c.in-Branch.is at (made g.L.Label.label_of c.args.self.now c.self.inside.root
-    c.in_ok-items.field-0.now c.self.invariant c.self.view_is c.in_ok-items.ensures.value
-    c.requires.copies) in
+done g t c node =
     let tree = c.args.self.now in
     let cs = c.in-Branch.children.items in
     let i = c.place-at.result in
@@ -118,21 +139,20 @@ done g t c =
     let child = child_here cs i d node.whole h is in
     let some : 1 < length d.tree.0 =
     omega (arith, child.counted, child.wide, pow_pos d.tree.1, c.if-index-eq1.false, ap (λ c. c.len) seen) in
-    let fewer : OnOk c.pop-popped.result (d.len - c.from.result + 1 ≡ d.len + 0) = search rules in
-    let same : OnErr c.pop-popped.result (d.len - c.from.result ≡ d.len) = search rules in
+    let counted = one_less d.len c.from.result c.is_ok.result c.from.ensures c.pop-popped.result c.is_ok.ensures.value
+    (omega (arith, some, child.counted)) in
     popped_under tree cs i d node.whole node.same h is c.args.end c.args.least _ first some
     (λ low. can_lose tree cs i d node.whole node.same h is (omega (arith, low, c.if-len-least.false, c.len.ensures)))
-    (omega arith) c.pop-popped.new.self (d.len - c.from.result) c.pop-popped.result c.pop-popped.ensures fewer same
+    (omega arith) c.pop-popped.new.self (d.len - c.from.result) c.pop-popped.result c.pop-popped.ensures counted.0
+    counted.1
 
 -- the same where a leaf goes with its only item
 gone : (g : given.Over) (t : ℕ) (c : After-pop_leaf g t)
+    → IsMade g.L.Label.label_of c.args.self.now (Branch c.in-Branch.children)
     → let cs = c.pop_leaf.new.children.items in
     AreChildren g.L.Label.label_of cs × MatchResult c.pop_leaf.result
     (IsPopped c.args.end c.args.least c.args.self.now (items_in cs, height_in cs)) (λ _. MakeUp cs c.args.self.now)
-gone g t c =
-    let node = rw c.in-Branch.is at (made g.L.Label.label_of c.args.self.now c.self.inside.root
-    c.in_ok-items.field-0.now c.self.invariant c.self.view_is c.in_ok-items.ensures.value
-    c.requires.copies) in
+gone g t c node =
     let tree = c.args.self.now in
     let cs = c.in-Branch.children.items in
     let i = c.place-at.result in
@@ -147,20 +167,26 @@ gone g t c =
 
 pub invariant_of-self-then-index-eq1 : goal.invariant_of-self-then-index-eq1
 invariant_of-self-then-index-eq1 g t c =
-    let ok : IsOk c.make_mut.result = subst IsOk (sym c.in_ok-items.was) refl in
-    rw c.make_mut.follows.holds ((gone g t (goal.at.invariant_of-self-then-index-eq1 g t c).After-pop_leaf).0)
+    let ok : IsOk c.make_mut.result = ap (λ r. is_ok r) c.in_ok-items.was in
+    let at = goal.at.invariant_of-self-then-index-eq1 g t c in
+    subst (IsNode g.L.Label.label_of) (sym (c.make_mut.follows.holds _ ok))
+    (gone g t at.After-pop_leaf (branch g t at.In-Branch)).0
 
 pub returns-then-index-eq1 : goal.returns-then-index-eq1
 returns-then-index-eq1 g t c =
-    let ok : IsOk c.make_mut.result = subst IsOk (sym c.in_ok-items.was) refl in
-    rw c.make_mut.follows.holds ((gone g t (goal.at.returns-then-index-eq1 g t c).After-pop_leaf).1)
+    let ok : IsOk c.make_mut.result = ap (λ r. is_ok r) c.in_ok-items.was in
+    let at = goal.at.returns-then-index-eq1 g t c in
+    rw c.make_mut.follows.holds ((gone g t at.After-pop_leaf (branch g t at.In-Branch)).1)
 
 pub invariant_of-self-2 : goal.invariant_of-self-2
 invariant_of-self-2 g t c =
-    let ok : IsOk c.make_mut.result = subst IsOk (sym c.in_ok-items.was) refl in
-    rw c.make_mut.follows.holds ((done g t (goal.at.invariant_of-self-2 g t c).After-from).0)
+    let ok : IsOk c.make_mut.result = ap (λ r. is_ok r) c.in_ok-items.was in
+    let at = goal.at.invariant_of-self-2 g t c in
+    subst (IsNode g.L.Label.label_of) (sym (c.make_mut.follows.holds _ ok))
+    (done g t at.After-from (branch g t at.In-Branch)).0
 
 pub returns : goal.returns
 returns g t c =
-    let ok : IsOk c.make_mut.result = subst IsOk (sym c.in_ok-items.was) refl in
-    rw c.make_mut.follows.holds ((done g t (goal.at.returns g t c).After-from).1)
+    let ok : IsOk c.make_mut.result = ap (λ r. is_ok r) c.in_ok-items.was in
+    let at = goal.at.returns g t c in
+    rw c.make_mut.follows.holds ((done g t at.After-from (branch g t at.In-Branch)).1)

@@ -1,10 +1,10 @@
 -- The item goes in behind those of the last child.
-use Rattle.std.proofs.Common.{◌≡◌, ◌+◌, ◌-◌, ◌<◌, ℕ, [], ◌∷◌, ap, arith, length, refl, rules, set, subst, sym}
-use Rattle.std.specs.Prelude.{IsOk, List, MatchResult, OnErr, OnOk}
+use Rattle.std.proofs.Common.{◌≡◌, ◌+◌, ◌-◌, ◌<◌, ◌^◌, ℕ, [], ◌∷◌, ap, arith, length, set}
+use Rattle.std.specs.Prelude.{IsOk, List, MatchResult, is_ok}
 use Rattle.sequence.specs.Nodes.{AreChildren, IsList}
 use Rattle.sequence.specs.Spots.{spliced}
 use Rattle.sequence.specs.declared.tree.Node.TheVariants.{Branch}
-use Rattle.sequence.proofs.Calls.{both, of_two}
+use Rattle.sequence.proofs.Calls.{one_more}
 use Rattle.sequence.proofs.Nodes.Copied.{IsMade, made}
 use Rattle.sequence.proofs.Nodes.Ended.{MakeUp, at_most_one, pushed_leaf, pushed_under}
 use Rattle.sequence.proofs.Nodes.Placed.{child_here, child_within}
@@ -23,11 +23,6 @@ branch g t c =
 pub overflow_sub-last : goal.overflow_sub-last
 overflow_sub-last g t c =
     let node = branch g t (goal.at.overflow_sub-last g t c).In-Branch in
-    omega (arith, some_in c.in-Branch.children.items node.whole, c.len-last.ensures)
-
-pub index_mut-child-requires : goal.index_mut-child-requires
-index_mut-child-requires g t c =
-    let node = branch g t (goal.at.index_mut-child-requires g t c).In-Branch in
     omega (arith, some_in c.in-Branch.children.items node.whole, c.len-last.ensures)
 
 pub overflow_add-child : goal.overflow_add-child
@@ -59,8 +54,11 @@ push-pushed-requires g t c κs within =
     let h : i < length cs = omega (arith, some, c.len-last.ensures) in
     let level = (node.whole.each i d h).level in
     let fewer = child_within cs i d node.whole h is in
-    of_two (omega (arith, c.decreases, ap (λ t. t.1) node.same, ap (λ child. child.tree.1) is, level)) within
-    (both c.requires.copies (omega (arith, fewer, ap (λ t. length t.0) node.same, c.requires.room)))
+    let room : length d.tree.0 + 1 < 2 ^ 64 =
+    omega (arith, fewer, ap (λ t. length t.0) node.same, c.requires.room) in (
+      omega (arith, c.decreases, ap (λ t. t.1) node.same, ap (λ child. child.tree.1) is, level),
+      (within.0, (within.1, (c.requires.copies, room))),
+    )
 
 -- the leaf then
 leaf : (g : given.Over) (t : ℕ) (c : After-push_in_leaf g t)
@@ -77,12 +75,12 @@ leaf g t c =
 
 pub invariant_of-self-in-Leaf : goal.invariant_of-self-in-Leaf
 invariant_of-self-in-Leaf g t c =
-    let ok : IsOk c.make_mut.result = subst IsOk (sym c.in-Ok.is) refl in
+    let ok : IsOk c.make_mut.result = ap (λ r. is_ok r) c.in-Ok.is in
     rw c.make_mut.follows.holds ((leaf g t (goal.at.invariant_of-self-in-Leaf g t c).After-push_in_leaf).0)
 
 pub returns-in-Leaf : goal.returns-in-Leaf
 returns-in-Leaf g t c =
-    let ok : IsOk c.make_mut.result = subst IsOk (sym c.in-Ok.is) refl in
+    let ok : IsOk c.make_mut.result = ap (λ r. is_ok r) c.in-Ok.is in
     rw c.make_mut.follows.holds ((leaf g t (goal.at.returns-in-Leaf g t c).After-push_in_leaf).1)
 
 -- the children then
@@ -103,18 +101,18 @@ done g t c =
     let d = c.index_mut-child.result.now in
     let some = some_in cs node.whole in
     let last : c.len-last.result - 1 + 1 ≡ length cs = omega (arith, some, c.len-last.ensures) in
-    let more : OnOk c.push-pushed.result (d.len + c.from.result + 0 ≡ d.len + 1) = search rules in
-    let same : OnErr c.push-pushed.result (d.len + c.from.result ≡ d.len) = search rules in
+    let counted = one_more d.len c.from.result c.is_ok.result c.from.ensures c.push-pushed.result
+    c.is_ok.ensures.value in
     pushed_under c.args.self.now cs (c.len-last.result - 1) d node.whole node.same (omega (arith, last))
     c.index_mut-child.ensures.value last c.requires.room c.args.item c.push-pushed.new.self (d.len + c.from.result)
-    c.push-pushed.result c.push-pushed.ensures more same
+    c.push-pushed.result c.push-pushed.ensures counted.0 counted.1
 
 pub invariant_of-self-2 : goal.invariant_of-self-2
 invariant_of-self-2 g t c =
-    let ok : IsOk c.make_mut.result = subst IsOk (sym c.in-Ok.is) refl in
+    let ok : IsOk c.make_mut.result = ap (λ r. is_ok r) c.in-Ok.is in
     rw c.make_mut.follows.holds ((done g t (goal.at.invariant_of-self-2 g t c).After-from).0)
 
 pub returns : goal.returns
 returns g t c =
-    let ok : IsOk c.make_mut.result = subst IsOk (sym c.in-Ok.is) refl in
+    let ok : IsOk c.make_mut.result = ap (λ r. is_ok r) c.in-Ok.is in
     rw c.make_mut.follows.holds ((done g t (goal.at.returns g t c).After-from).1)

@@ -1,8 +1,7 @@
 -- The children before the cut and behind it, and the two lists of the child that is cut.
-use Rattle.std.proofs.Common.{◌≡◌, ◌+◌, ◌++◌, ◌∙◌, ap, arith, drop, get_or, length, subst, sym, take}
+use Rattle.std.proofs.Common.{◌≡◌, ◌+◌, ◌≤◌, ◌++◌, ◌∙◌, ap, arith, drop, get_or, length, subst, sym, take}
 use Rattle.std.specs.Prelude.{IfOk}
 use Rattle.sequence.specs.Nodes.{AreChildren, items_in}
-use Rattle.sequence.proofs.Calls.{both, of_two}
 use Rattle.sequence.proofs.Shapes.Parted.{back_is, front_is}
 use Rattle.sequence.proofs.tree.Tree.+split_at.Goals as goal
 
@@ -10,13 +9,14 @@ pub lists_around-requires-clause-children : goal.lists_around-requires-clause-ch
 lists_around-requires-clause-children g t c =
     subst (AreChildren g.L.Label.label_of) (sym c.deref-3.ensures.value) (rw c.in-Branch.is at c.node.ensures.whole)
 
-pub spot_of-spot-requires : goal.spot_of-spot-requires
-spot_of-spot-requires g t c =
+pub spot_of-spot-requires-clause-children : goal.spot_of-spot-requires-clause-children
+spot_of-spot-requires-clause-children g t c =
+    rw c.deref-2.ensures.value (rw c.in-Branch.is at c.node.ensures.whole)
+
+pub spot_of-spot-requires-clause-within : goal.spot_of-spot-requires-clause-within
+spot_of-spot-requires-clause-within g t c =
     let same = rw c.in-Branch.is at c.node.ensures.same in
-    rw c.deref-2.ensures.value record {
-      children = rw c.in-Branch.is at c.node.ensures.whole;
-      within = omega (arith, c.requires.within, ap (λ t. length t.0) same);
-    }
+    rw c.deref-2.ensures.value (omega (arith, c.requires.within, ap (λ t. length t.0) same))
 
 pub split_at-requires : goal.split_at-requires
 split_at-requires g t c κs within =
@@ -27,8 +27,10 @@ split_at-requires g t c κs within =
     let leads = rw c.deref-2.ensures.value at c.spot_of-spot.ensures in
     let level = (are.each spot.child d leads.within).level in
     let is = c.index.ensures in
-    of_two (omega (arith, c.decreases, ap (λ t. t.1) same, ap (λ child. child.tree.1) is, level)) within
-    (both c.requires.copies (omega (arith, leads.inside d, ap (λ child. length child.tree.0) is)))
+    let inside : spot.place ≤ length d.tree.0 = omega (arith, leads.inside d, ap (λ child. length child.tree.0) is) in (
+      omega (arith, c.decreases, ap (λ t. t.1) same, ap (λ child. child.tree.1) is, level),
+      (within.0, (within.1, (c.requires.copies, inside))),
+    )
 
 pub returns : goal.returns
 returns g t c =

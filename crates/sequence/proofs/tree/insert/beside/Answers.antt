@@ -1,9 +1,12 @@
 -- The branch has one more child, which `join_if_small` may join with the one beside it.
-use Rattle.std.proofs.Common.{◌≡◌, ◌++◌, ◌∷◌, ◌∙◌, [], ap, append-nil, arith, get_or, inl, inr, length, set, subst, sym}
+use Rattle.std.proofs.Common.{◌≡◌, ◌++◌, ◌∷◌, ◌∙◌, [], ap, append-nil, arith, get_or, inl, inr, length}
+use Rattle.std.proofs.Common.{length-append, length-set, set, subst, sym}
+use Rattle.std.specs.Prelude.{Some}
 use Rattle.sequence.specs.Nodes.{AreChildren, height_in, items_in}
 use Rattle.sequence.specs.Spots.{spliced}
 use Rattle.sequence.proofs.Shapes.Beside.{labelled_by_first, more_before, more_behind}
 use Rattle.sequence.proofs.Nodes.Children.{items_append}
+use Rattle.sequence.proofs.Nodes.Wide.{some_in}
 use Rattle.sequence.proofs.Lists.Spliced.{splice_end}
 use Rattle.sequence.proofs.tree.insert.beside.Goals as goal
 
@@ -68,3 +71,61 @@ returns-clause-height g c =
     c.join_if_small-2.ensures.same.height ∙ ap (λ cs. height_in cs) c.in_default-push.ensures.items
     ∙ (more_behind c.args.children.now.items c.args.child c.requires.children c.requires.child c.requires.room
     c.requires.label).height
+
+pub index_mut-requires : goal.index_mut-requires
+index_mut-requires g c =
+    omega (
+      arith,
+      ap (λ cs. length cs) c.in_default-insert.ensures.items,
+      some_in c.args.children.now.items c.requires.children,
+    )
+
+pub join_if_small-requires-clause-within : goal.join_if_small-requires-clause-within
+join_if_small-requires-clause-within g c =
+    let new = record c.index_mut.result.now { label = c.in-Ok.label } in
+    omega (
+      arith,
+      length-set c.insert.new.self.items 1 new,
+      ap (λ cs. length cs) c.in_default-insert.ensures.items,
+      some_in c.args.children.now.items c.requires.children,
+    )
+
+pub overflow_sub-last : goal.overflow_sub-last
+overflow_sub-last g c =
+    omega (arith, some_in c.args.children.now.items c.requires.children, c.len-last.ensures)
+
+pub join_if_small-requires-2-clause-within : goal.join_if_small-requires-2-clause-within
+join_if_small-requires-2-clause-within g c =
+    omega (
+      arith,
+      ap (λ cs. length cs) c.in_default-push.ensures.items,
+      length-append c.args.children.now.items (c.args.child ∷ []),
+      some_in c.args.children.now.items c.requires.children,
+      c.len-last.ensures,
+    )
+
+pub returns-in-Err-clause-height : goal.returns-in-Err-clause-height
+returns-in-Err-clause-height g c = ap (λ cs. height_in cs) c.in-Err.ensures.items
+
+pub returns-in-Err-clause-children : goal.returns-in-Err-clause-children
+returns-in-Err-clause-children g c =
+    subst (AreChildren g.L.Label.label_of) (sym c.in-Err.ensures.items) c.requires.children
+
+pub returns-in-Err-clause-refused : goal.returns-in-Err-clause-refused
+returns-in-Err-clause-refused g c = ap (λ cs. items_in cs) c.in-Err.ensures.items
+
+pub returns-in-Err-push-clause-height : goal.returns-in-Err-push-clause-height
+returns-in-Err-push-clause-height g c = ap (λ cs. height_in cs) c.in-Err-push.ensures.items
+
+pub returns-in-Err-push-clause-children : goal.returns-in-Err-push-clause-children
+returns-in-Err-push-clause-children g c =
+    subst (AreChildren g.L.Label.label_of) (sym c.in-Err-push.ensures.items) c.requires.children
+
+pub returns-in-Err-push-clause-refused : goal.returns-in-Err-push-clause-refused
+returns-in-Err-push-clause-refused g c = ap (λ cs. items_in cs) c.in-Err-push.ensures.items
+
+pub returns-in-Err-clause-back : goal.returns-in-Err-clause-back
+returns-in-Err-clause-back g c = ap (λ child. Some child) c.in-Err.ensures.value_returned
+
+pub returns-in-Err-push-clause-back : goal.returns-in-Err-push-clause-back
+returns-in-Err-push-clause-back g c = ap (λ child. Some child) c.in-Err-push.ensures.value_returned

@@ -38,3 +38,9 @@ returns-clause-leads g c place leads =
     let new = c.join_children-2.new.children.items in
     subst (λ n. Leads new place (record { child = spot.child - 1; place = n + spot.place }))
     (sym (ap (λ child. child.len) c.index.ensures)) there
+
+pub returns-then-child-len-clause-spare : goal.returns-then-child-len-clause-spare
+returns-then-child-len-clause-spare g c = c.in_ok-join_children.ensures.spare
+
+pub returns-clause-spare : goal.returns-clause-spare
+returns-clause-spare g c = c.in_ok-join_children-2.ensures.spare

@@ -4,6 +4,7 @@ use Rattle.std.proofs.lemmas.Bool.{cases_lt}
 use Rattle.std.proofs.lemmas.List.{get_or_default, take_all}
 use Rattle.sequence.specs.Nodes.{items_in}
 use Rattle.sequence.proofs.Nodes.Children.{length-more}
+use Rattle.sequence.proofs.Nodes.Wide.{some_in}
 use Rattle.sequence.proofs.tree.search.spot_of.Goals as goal
 
 pub along-preserved : goal.along-preserved
@@ -51,3 +52,21 @@ returns g c =
       is = here.left;
       inner = here.inner;
     }
+
+pub overflow_sub-left : goal.overflow_sub-left
+overflow_sub-left g c =
+    let at = c.along.child in
+    let d = c.index-children-child-in-along.result in
+    omega (
+      arith,
+      c.along-test.true,
+      ap (λ child. child.len) (get_or_default c.args.children.now at d c.index-children-child.result
+          c.along.invariant.within),
+    )
+
+pub along-init : goal.along-init
+along-init g c = record {
+  within = some_in c.args.children.now c.requires.children;
+  left = omega arith;
+  inner = λ some. some;
+}

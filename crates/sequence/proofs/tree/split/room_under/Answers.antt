@@ -72,3 +72,15 @@ pub returns-in_err-reserve-clause-same : goal.returns-in_err-reserve-clause-same
 returns-in_err-reserve-clause-same g c =
     let cs = c.args.children.now.items in
     subst (StandFor g.L.Label.label_of cs) (sym c.reserve.ensures.items) (stand_itself cs c.requires.children)
+
+pub index-requires-3 : goal.index-requires-3
+index-requires-3 g c = omega (arith, ap (λ cs. length cs) c.in_ok-reserve.ensures.items, c.requires.within)
+
+pub insert-requires : goal.insert-requires
+insert-requires g c = omega (arith, ap (λ cs. length cs) c.in_ok-reserve.ensures.items, c.requires.within)
+
+pub overflow_add-child : goal.overflow_add-child
+overflow_add-child g c = omega (arith, c.requires.within, c.args.children.now.ok)
+
+pub past-requires : goal.past-requires
+past-requires g c = omega (arith, c.requires.within, c.args.children.now.ok)

@@ -1,6 +1,6 @@
 -- What differs between two maps, from the first keys on.
 use Rattle.std.proofs.Common.{◌≡◌, ◌∙◌, true, false, Bool, cond, List, [], ◌∷◌, ◌++◌, refl, ap, sym, subst}
-use Rattle.std.proofs.Common.{append-nil, append_assoc, drop, option_map, option_to_list}
+use Rattle.std.proofs.Common.{◌+◌, ◌<◌, append-nil, append_assoc, arith, drop, length, option_map, option_to_list}
 use Rattle.std.specs.Prelude.{Option, None, Some}
 use Rattle.std.specs.Borrow.{Bor}
 use Rattle.std.specs.declared.cmp.Ordering.{Ordering}
@@ -9,6 +9,7 @@ use Rattle.std.specs.Cmp.{IsTotalOrder}
 use Rattle.std.specs.Ordering.{is_eq, is_ge, is_le}
 use Rattle.std.proofs.lemmas.Cmp.{alike_right}
 use Rattle.std.proofs.lemmas.List.{map-append}
+use Rattle.std.proofs.lemmas.Option.{same_Some}
 use Rattle.maps.specs.declared.entries.diff.DiffItem.{DiffItem}
 use Rattle.maps.specs.Differences.{as_entry, change_of, difference, first_change, listed, sides}
 use Rattle.maps.specs.Maps.{IsRising, lookup}
@@ -133,6 +134,27 @@ module _ {K V : Type 0} (cmp : K → K → Ordering) (eq : V → V → Bool) whe
               added f (e ∷ es) fs cs (λ r. (below, above_more cmp (cmp f.0) (key_form total f.0) e.0 es below r.0)) is
         ] refl
 
+  fewer : (es fs : List (K × V)) (o : Ordering) (change : Option (K × (Option V × Option V)))
+      → Some (o, change) ≡ first_change cmp eq es fs
+      → length (past (is_le o) es) + length (past (is_ge o) fs) < length es + length fs
+  fewer [] [] o change first = cc
+  fewer (e ∷ es) [] o change first = rw (ap (λ s. s.0) (same_Some _ _ first)) (omega arith)
+  fewer [] (f ∷ fs) o change first = rw (ap (λ s. s.0) (same_Some _ _ first)) (omega arith)
+  fewer (e ∷ es) (f ∷ fs) Less change first = omega arith
+  fewer (e ∷ es) (f ∷ fs) Equal change first = omega arith
+  fewer (e ∷ es) (f ∷ fs) Greater change first = omega arith
+
+  -- a step past the first change leaves fewer entries
+  pub fewer_left : (change : Option (K × (Option V × Option V))) (es fs as_es as_fs : List (K × V)) (o : Ordering)
+      (a b : Bool) → Some (o, change) ≡ first_change cmp eq es fs → a ≡ is_le o → b ≡ is_ge o → as_es ≡ past a es
+      → as_fs ≡ past b fs → length as_es + length as_fs < length es + length fs
+  fewer_left change es fs as_es as_fs o a b first le ge olds news = omega (
+    arith,
+    ap (λ xs. length xs) (olds ∙ ap (λ goes. past goes es) le),
+    ap (λ xs. length xs) (news ∙ ap (λ goes. past goes fs) ge),
+    fewer es fs o change first,
+  )
+
   module _ (old new : List (K × V)) where
     -- what was found and what differs in what is left are all differences
     abbrev pub AreFound : List (Bor K × DiffItem V) → List (K × V) → List (K × V) → Type 0
@@ -141,14 +163,14 @@ module _ {K V : Type 0} (cmp : K → K → Ordering) (eq : V → V → Bool) whe
 
     -- one step goes past the first change
     pub found_after : IsTotalOrder cmp → (changes more : List (Bor K × DiffItem V))
-        (change : Option (Bor K × DiffItem V)) (es fs as_es as_fs : List (K × V)) (o : Ordering)
-        → Some (o, option_map as_entry change) ≡ first_change cmp eq es fs → as_es ≡ past (is_le o) es
-        → as_fs ≡ past (is_ge o) fs → more ≡ changes ++ option_to_list change → AreFound changes es fs
+        (change : Option (Bor K × DiffItem V)) (es fs as_es as_fs : List (K × V)) (o : Ordering) (a b : Bool)
+        → Some (o, option_map as_entry change) ≡ first_change cmp eq es fs → a ≡ is_le o → b ≡ is_ge o
+        → as_es ≡ past a es → as_fs ≡ past b fs → more ≡ changes ++ option_to_list change → AreFound changes es fs
         → AreFound more as_es as_fs
-    found_after total changes more change es fs as_es as_fs o first olds news is found cs left =
+    found_after total changes more change es fs as_es as_fs o a b first le ge olds news is found cs left =
         let step = subst (Leads es fs) (sym first) (leads total es fs) in
-        let was = subst (λ xs. AreBetween xs (past (is_ge o) fs) cs) olds
-        (subst (λ ys. AreBetween as_es ys cs) news left) in
+        let was = subst (λ xs. AreBetween xs (past (is_ge o) fs) cs) (olds ∙ ap (λ goes. past goes es) le)
+        (subst (λ ys. AreBetween as_es ys cs) (news ∙ ap (λ goes. past goes fs) ge) left) in
         subst (λ ds. AreBetween old new ds) (sym (listed_more changes more change cs is))
         (found (option_to_list (option_map as_entry change) ++ cs) (step cs was))
 

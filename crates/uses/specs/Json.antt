@@ -18,8 +18,5 @@ view_step (Value-F.Map members) = object (members_of members)
 abbrev pub view : Value → Data
 view = fold-Value Data view_step
 
-abbrev pub items_view : List Value → Items
-items_view vs = items_of (map view vs)
-
 abbrev pub members_view : List (String Global × Value) → Members
 members_view ms = members_of (map (λ m. (m.0, view m.1)) ms)

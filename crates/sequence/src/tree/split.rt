@@ -82,14 +82,16 @@ pub(crate) fn room_under<T: Clone, L: NewLabel<T>>(
     }
     let ends = grows & (place == children[child].len);
     children.reserve(1)?;
-    let Some(right) = children[child].split_node(alloc, ends)? else {
+    let left = &mut children[child];
+    let Some(right) = left.tree.split_node(alloc, ends)? else {
         return Ok(spot);
     };
-    let left = children[child].len;
+    left.len -= right.len;
+    let kept = left.len;
     let Ok(()) = children.insert(child + 1, right) else {
         unreachable!()
     };
-    Ok(spot.past(left))
+    Ok(spot.past(kept))
 }
 
 impl Spot {
@@ -105,24 +107,6 @@ impl Spot {
             child: self.child + 1,
             place: self.place - left,
         }
-    }
-}
-
-impl<T: Clone, L: NewLabel<T>> Child<T, L> {
-    // Makes two of the child if its first node is full: it keeps the first part, and gives the last one.
-    fn split_node(&mut self, alloc: Global, ends: bool) -> Result<Option<Child<T, L>>, AllocError>
-        requires copies { CopiesAreEqual T.is_clone × CopiesAreEqual L.is_clone }
-        requires child { IsChild (self.old.tree.1 + 1) self.old }
-        ensures child { OnOk result (IsChild (self.old.tree.1 + 1) self.new) }
-        ensures label { self.new.label ≡ self.old.label }
-        ensures split { MatchResult result (Splits L.label_of self.old.tree self.new.tree) (λ _. self.new ≡ self.old) }
-        ensures whole { IfOk result (λ half. IfNone half (self.new ≡ self.old)) }
-    {
-        let Some(right) = self.tree.split_node(alloc, ends)? else {
-            return Ok(None);
-        };
-        self.len -= right.len;
-        Ok(Some(right))
     }
 }
 

@@ -1,8 +1,9 @@
-use Rattle.std.proofs.Common.{◌≡◌, ◌+◌, ◌∙◌, ap, arith, get_or, get_or-set_same, length, set, subst, sym}
+use Rattle.std.proofs.Common.{◌≡◌, ◌+◌, ◌-◌, ◌∙◌, ap, arith, get_or, length, length-append, refl, set, subst, sym}
 use Rattle.std.specs.List.{insert}
 use Rattle.sequence.specs.declared.tree.Child.{Child}
 use Rattle.sequence.specs.Nodes.{CanLose, StandFor}
 use Rattle.sequence.specs.Spots.{Leads}
+use Rattle.sequence.proofs.Shapes.Halves.{left_is}
 use Rattle.sequence.proofs.Shapes.Joined.{IsRoom, split_is, written_back}
 use Rattle.sequence.proofs.Nodes.Placed.{child_here, stand_itself}
 use Rattle.sequence.proofs.tree.split.room_under.Goals as goal
@@ -11,19 +12,16 @@ pub returns : goal.returns
 returns g c =
     let cs = c.args.children.now.items in
     let spot = c.args.spot in
-    let d = c.index_mut.result.now in
-    let l = c.split_node.new.self in
+    let d = c.index_mut-left.result.now in
     let r = c.in-Some.right in
+    let l = record d { len = d.len - r.len; tree = c.split_node.new.self } in
     let room = c.in_ok-reserve.ensures.items in
-    let is = c.index_mut.ensures.value ∙ ap (λ cs. get_or cs spot.child d) room in
-    let child = c.in_ok-right.ensures.child in
-    let halves = rw c.in-Some.is at c.in_ok-right.ensures.split in
-    let left : c.index-3.result.now ≡ l = c.index-3.ensures
-    ∙ get_or-set_same c.reserve.new.self.items spot.child l c.index-3.result.now
-    (omega (arith, ap (λ cs. length cs) room, c.requires.within)) in
+    let is = c.index_mut-left.ensures.value ∙ ap (λ cs. get_or cs spot.child d) room in
+    let old = child_here cs spot.child d c.requires.children c.requires.within is in
+    let halves = rw c.in-Some.is at c.in_ok-right.ensures in
+    let child = left_is d r l old halves.0 refl in
     let done = split_is cs spot.child d l r c.requires.children c.requires.within is child
-    halves.0 c.in_ok-right.ensures.label spot.place c.index-3.result.now.len halves.1
-    (ap (λ child. child.len) left ∙ child.counted) in
+    halves.0 refl spot.place l.len halves.1 child.counted in
     let items : c.insert.new.self.items ≡ insert (set cs spot.child l) (spot.child + 1) r =
     c.in-Ok.ensures.items ∙ ap (λ xs. insert (set xs spot.child l) (spot.child + 1) r) room in
     let all = subst (λ xs. IsRoom g.L.Label.label_of cs xs spot c.past.result) (sym items)
@@ -32,19 +30,29 @@ returns g c =
     done) in
     record { same = all.same; leads = all.leads; spare = λ _. all.spare }
 
-pub split_node-requires-clause-child : goal.split_node-requires-clause-child
-split_node-requires-clause-child g c =
-    let at = c.args.spot.child in
-    let d = c.index_mut.result.now in
-    child_here c.args.children.now.items at d c.requires.children c.requires.within
-    (c.index_mut.ensures.value ∙ ap (λ cs. get_or cs at d) c.in_ok-reserve.ensures.items)
+pub overflow_sub-left : goal.overflow_sub-left
+overflow_sub-left g c =
+    let d = c.index_mut-left.result.now in
+    let new = c.split_node.new.self in
+    let halves = (rw c.in-Some.is at c.in_ok-right.ensures).0 in
+    let old = child_here c.args.children.now.items c.args.spot.child d c.requires.children c.requires.within
+    (c.index_mut-left.ensures.value ∙ ap (λ cs. get_or cs c.args.spot.child d) c.in_ok-reserve.ensures.items) in
+    omega (
+      arith,
+      old.counted,
+      halves.child.counted,
+      ap (λ es. length es) halves.items,
+      length-append new.0 c.in-Some.right.tree.0,
+    )
 
 pub returns-in_err-right-clause-same : goal.returns-in_err-right-clause-same
 returns-in_err-right-clause-same g c =
     let cs = c.args.children.now.items in
     subst (StandFor g.L.Label.label_of cs)
-    (sym (written_back cs c.reserve.new.self.items c.args.spot.child c.index_mut.result.now c.split_node.new.self
-    c.index_mut.ensures.value c.in_err-right.ensures.split c.in_ok-reserve.ensures.items))
+    (sym (written_back cs c.reserve.new.self.items c.args.spot.child c.index_mut-left.result.now
+    (record c.index_mut-left.result.now { tree = c.split_node.new.self }) c.index_mut-left.ensures.value
+    (ap (λ tree. record c.index_mut-left.result.now { tree = tree }) c.in_err-right.ensures)
+    c.in_ok-reserve.ensures.items))
     (stand_itself cs c.requires.children)
 
 pub returns-then-not-is_full : goal.returns-then-not-is_full
@@ -58,9 +66,10 @@ pub returns-in_default : goal.returns-in_default
 returns-in_default g c =
     let cs = c.args.children.now.items in
     let spot = c.args.spot in
-    let new = c.split_node.new.self in
-    let back = written_back cs c.reserve.new.self.items spot.child c.index_mut.result.now new c.index_mut.ensures.value
-    (rw c.in_default.is at c.in_ok-right.ensures.whole) c.in_ok-reserve.ensures.items in
+    let d = c.index_mut-left.result.now in
+    let same = rw c.in_default.is at c.in_ok-right.ensures in
+    let back = written_back cs c.reserve.new.self.items spot.child d (record d { tree = c.split_node.new.self })
+    c.index_mut-left.ensures.value (ap (λ tree. record d { tree = tree }) same) c.in_ok-reserve.ensures.items in
     record {
       same = subst (StandFor g.L.Label.label_of cs) (sym back) (stand_itself cs c.requires.children);
       leads = λ place leads. subst (λ xs. Leads xs place spot) (sym back) leads;
@@ -73,8 +82,8 @@ returns-in_err-reserve-clause-same g c =
     let cs = c.args.children.now.items in
     subst (StandFor g.L.Label.label_of cs) (sym c.reserve.ensures.items) (stand_itself cs c.requires.children)
 
-pub index-requires-3 : goal.index-requires-3
-index-requires-3 g c = omega (arith, ap (λ cs. length cs) c.in_ok-reserve.ensures.items, c.requires.within)
+pub index_mut-left-requires : goal.index_mut-left-requires
+index_mut-left-requires g c = omega (arith, ap (λ cs. length cs) c.in_ok-reserve.ensures.items, c.requires.within)
 
 pub insert-requires : goal.insert-requires
 insert-requires g c = omega (arith, ap (λ cs. length cs) c.in_ok-reserve.ensures.items, c.requires.within)

@@ -6,7 +6,7 @@ pub(crate) mod act;
 pub(crate) mod build;
 pub(crate) mod change;
 pub(crate) mod copies;
-mod cut;
+pub(crate) mod cut;
 pub(crate) mod ends;
 mod hang;
 pub(crate) mod insert;

@@ -1,12 +1,11 @@
 //! Where a cut is.
-ghost use Rattle.std.specs.Prelude.{◌≡◌, ◌+◌, ◌*◌, ◌<◌, ◌≤◌, IfNone, IfSome, Some, length, nat_lt, slice_get, take};
+ghost use Rattle.std.specs.Prelude.{◌≡◌, ◌+◌, ◌*◌, ◌<◌, ◌≤◌, IfNone, IfSome, length, nat_lt, take};
 ghost use Rattle.sequence.specs.Cuts.{IsAmong, IsCut, HasCut, first};
 ghost use Rattle.sequence.specs.Nodes.{AreChildren, items_in};
 
 use crate::cut::Cut;
 use crate::label::Label;
-use crate::tree::search::count;
-use crate::tree::{Child, Node, Tree};
+use crate::tree::Child;
 
 // How many items are in a part of a leaf, when it is searched.
 const PART: usize = 16;
@@ -113,33 +112,4 @@ pub(crate) fn child_of<T, L: Label<T>, C: Cut<T, L>>(children: &[Child<T, L>], c
         at += usize::from(cut.label(&children[seen].label));
     }
     at
-}
-
-impl<T, L: Label<T>> Tree<T, L> {
-    // The last item before the cut, and its number. Inline, so that nothing is counted where no number is read.
-    #[inline(always)]
-    pub(crate) fn find<C: Cut<T, L>>(&self, cut: &C) -> Option<(usize, &T)>
-        requires { HasCut (C.is_before cut.now) self.now.0 }
-        ensures none { IfNone result (IsCut (C.is_before cut.now) self.now.0 0) }
-        ensures number { IfSome result (λ found. IsCut (C.is_before cut.now) self.now.0 (found.0 + 1)) }
-        ensures item { IfSome result (λ found. slice_get self.now.0 found.0 ≡ Some found.1.now) }
-    {
-        let mut node = self.node();
-        let mut start = 0;
-        'down: loop {
-            match node {
-                Node::Leaf(items) => {
-                    return match last_in(items, cut) {
-                        None => None,
-                        Some(at) => Some((start + at, &items[at])),
-                    };
-                }
-                Node::Branch(children) => {
-                    let at = child_of(children, cut);
-                    start += count(&children[..at]);
-                    node = children[at].tree.node();
-                }
-            }
-        }
-    }
 }

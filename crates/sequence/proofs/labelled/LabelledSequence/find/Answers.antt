@@ -1,23 +1,24 @@
--- The leaf has the cut that the tree has, and so has the child that is gone on with, or it is before all.
+-- The leaf has the cut that the list has, and so has the child that is gone on with, or it is before all.
 use Rattle.std.proofs.Common.{◌≡◌, ◌+◌, ◌<◌, ◌^◌, ◌∙◌, ap, arith, length, subst, sym, take}
 use Rattle.std.specs.List.{All}
 use Rattle.std.proofs.lemmas.List.{length-take-le}
 use Rattle.std.proofs.lemmas.List.Elements.{All-take}
 use Rattle.sequence.specs.declared.tree.Child.{Child}
-use Rattle.sequence.specs.Nodes.{AreChildren, IsNode, items_in, seen}
+use Rattle.sequence.specs.Nodes.{AreChildren, IsNode, items_in, items_under, seen}
 use Rattle.sequence.proofs.Cuts.{Holds, has_part, holds_all, last_cut, last_item, none_before}
 use Rattle.sequence.proofs.Cutting.Labels.{holds_child}
 use Rattle.sequence.proofs.Nodes.Children.{length-parts, length-split}
 use Rattle.sequence.proofs.Nodes.Wide.{list_node}
-use Rattle.sequence.proofs.tree.Tree.find.Goals as goal
+use Rattle.sequence.proofs.labelled.LabelledSequence.find.Goals as goal
 
 pub down-init : goal.down-init
 down-init g c =
     let test = g.C.Cut.is_before c.args.cut.now in
     let node = c.node-node.ensures in
-    let all = c.args.self.now.0 in
+    let all = c.args.self.now in
+    let same = ap (λ t. t.0) node.same ∙ ap (λ root. items_under root) (sym c.in-Some.is) ∙ c.self.view_is in
     record {
-      holds = subst (λ es. Holds test es 0 all) (sym (ap (λ t. t.0) node.same)) (holds_all test all);
+      holds = subst (λ es. Holds test es 0 all) (sym same) (holds_all test all);
       room = omega (arith, (list_node g.L.Label.label_of c.node-node.result.now node.whole).room);
       whole = node.whole;
     }
@@ -25,42 +26,42 @@ down-init g c =
 pub last_in-requires-clause-cut : goal.last_in-requires-clause-cut
 last_in-requires-clause-cut g c =
     let test = g.C.Cut.is_before c.args.cut.now in
-    let holds = subst (λ node. Holds test (seen node).0 c.down.start c.args.self.now.0) c.in-Leaf.is
+    let holds = subst (λ node. Holds test (seen node).0 c.down.start c.args.self.now) c.in-Leaf.is
     c.down.invariant.holds in
-    rw c.deref.ensures.value (has_part test c.in-Leaf.items.items c.args.self.now.0 c.down.start c.requires holds)
+    rw c.deref.ensures.value (has_part test c.in-Leaf.items.items c.args.self.now c.down.start c.requires holds)
 
 pub returns-in-None-clause-none : goal.returns-in-None-clause-none
 returns-in-None-clause-none g c =
     let test = g.C.Cut.is_before c.args.cut.now in
-    let holds = subst (λ node. Holds test (seen node).0 c.down.start c.args.self.now.0) c.in-Leaf.is
+    let holds = subst (λ node. Holds test (seen node).0 c.down.start c.args.self.now) c.in-Leaf.is
     c.down.invariant.holds in
     let none = rw c.deref.ensures.value at c.in-None.ensures.none in
-    none_before test c.in-Leaf.items.items c.args.self.now.0 c.down.start c.requires holds none
+    none_before test c.in-Leaf.items.items c.args.self.now c.down.start c.requires holds none
 
-pub returns-in-Some-clause-number : goal.returns-in-Some-clause-number
-returns-in-Some-clause-number g c =
+pub returns-in-Some-last_in-clause-number : goal.returns-in-Some-last_in-clause-number
+returns-in-Some-last_in-clause-number g c =
     let test = g.C.Cut.is_before c.args.cut.now in
-    let holds = subst (λ node. Holds test (seen node).0 c.down.start c.args.self.now.0) c.in-Leaf.is
+    let holds = subst (λ node. Holds test (seen node).0 c.down.start c.args.self.now) c.in-Leaf.is
     c.down.invariant.holds in
-    let some = rw c.deref.ensures.value at c.in-Some.ensures.some in
-    last_cut test c.in-Leaf.items.items c.args.self.now.0 c.down.start c.requires holds c.in-Some.at some
+    let some = rw c.deref.ensures.value at c.in-Some-last_in.ensures.some in
+    last_cut test c.in-Leaf.items.items c.args.self.now c.down.start c.requires holds c.in-Some-last_in.at some
 
-pub returns-in-Some-clause-item : goal.returns-in-Some-clause-item
-returns-in-Some-clause-item g c =
+pub returns-in-Some-last_in-clause-item : goal.returns-in-Some-last_in-clause-item
+returns-in-Some-last_in-clause-item g c =
     let test = g.C.Cut.is_before c.args.cut.now in
-    let holds = subst (λ node. Holds test (seen node).0 c.down.start c.args.self.now.0) c.in-Leaf.is
+    let holds = subst (λ node. Holds test (seen node).0 c.down.start c.args.self.now) c.in-Leaf.is
     c.down.invariant.holds in
-    let some = rw c.deref.ensures.value at c.in-Some.ensures.some in
-    last_item test c.in-Leaf.items.items c.args.self.now.0 c.down.start c.requires holds c.in-Some.at _ some.within
+    let some = rw c.deref.ensures.value at c.in-Some-last_in.ensures.some in
+    last_item test c.in-Leaf.items.items c.args.self.now c.down.start c.requires holds c.in-Some-last_in.at _ some.within
     c.index.ensures
 
 pub child_of-at-requires-clause-cut : goal.child_of-at-requires-clause-cut
 child_of-at-requires-clause-cut g c =
     let test = g.C.Cut.is_before c.args.cut.now in
-    let holds = subst (λ node. Holds test (seen node).0 c.down.start c.args.self.now.0) c.in-Branch.is
+    let holds = subst (λ node. Holds test (seen node).0 c.down.start c.args.self.now) c.in-Branch.is
     c.down.invariant.holds in
     rw c.deref-in-Branch.ensures.value
-    (has_part test (items_in c.in-Branch.children.items) c.args.self.now.0 c.down.start c.requires holds)
+    (has_part test (items_in c.in-Branch.children.items) c.args.self.now c.down.start c.requires holds)
 
 pub count-start-requires-clause-room : goal.count-start-requires-clause-room
 count-start-requires-clause-room g c =
@@ -80,13 +81,13 @@ overflow_add-start g c =
 pub down-preserved : goal.down-preserved
 down-preserved g c =
     let test = g.C.Cut.is_before c.args.cut.now in
-    let all = c.args.self.now.0 in
+    let all = c.args.self.now in
     let cs = c.in-Branch.children.items in
     let at = c.child_of-at.result in
     let d = c.index-in-Branch.result.now in
     let start = c.down.start in
     let next = start + c.count-start.result in
-    let holds = subst (λ node. Holds test (seen node).0 c.down.start c.args.self.now.0) c.in-Branch.is
+    let holds = subst (λ node. Holds test (seen node).0 c.down.start c.args.self.now) c.in-Branch.is
     c.down.invariant.holds in
     let room = subst (λ node. c.down.start + length (seen node).0 < 2 ^ 64) c.in-Branch.is c.down.invariant.room in
     let under = rw c.deref-in-Branch.ensures.value at c.child_of-at.ensures in

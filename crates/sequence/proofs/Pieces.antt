@@ -1,7 +1,7 @@
 -- What a tree takes in, on its way down.
 use Rattle.std.proofs.Common.{◌≡◌, ◌∙◌, ◌+◌, ◌<◌, ◌≤◌, ◌^◌, ◌⊎◌, inl, inr, ℕ, List, length, get_or, set, ap, sym}
 use Rattle.std.proofs.Common.{subst, arith, w64, Fits as FitsWidth}
-use Rattle.std.specs.Prelude.{Err, IfErr, IsErrAnd, MatchResult, Ok, OnErr, OnOk, Result, Some}
+use Rattle.std.specs.Prelude.{Err, IfErr, IsErrAnd, MatchResult, Ok, OnErr, OnOk, Option, Result, Some}
 use Rattle.sequence.specs.declared.tree.Child.{Child}
 use Rattle.sequence.specs.declared.tree.insert.Piece.{Piece}
 use Rattle.sequence.specs.declared.tree.insert.Piece.TheVariants.{Item, Part}
@@ -145,3 +145,29 @@ module _ {T L : Type 0} (label_of : T → L) where
   pub is_here : (piece : Piece T L) (child : Child T L) → IsHere piece child → Some child ≡ part_of piece
   is_here (Item item) child here = absurd here
   is_here (Part part below) child here = ap (λ (c : Child T L). Some c) here.1
+
+  -- the branch after a child was put beside those that it has, or was refused
+  abbrev pub Beside : {A : Type 0} → ℕ → Child T L → List (Child T L) → List (Child T L)
+      → Result A (Option (Child T L)) → Type 0
+  Beside place child cs new r =
+      MatchResult r (λ _. (items_in new ≡ spliced place 0 child.tree.0 (items_in cs))
+      × ((height_in new ≡ height_in cs) × AreChildren label_of new)) (λ back. (new ≡ cs) × (back ≡ Some child))
+
+  pub beside_are : {A : Type 0} (place : ℕ) (child : Child T L) (cs new : List (Child T L))
+      (r : Result A (Option (Child T L))) → Beside place child cs new r → AreChildren label_of cs
+      → AreChildren label_of new
+  beside_are place child cs new (Ok a) put are = put.1.1
+  beside_are place child cs new (Err e) left are = subst (AreChildren label_of) (sym left.0) are
+
+  pub put_beside : {A : Type 0} (place : ℕ) (piece : Piece T L) (child : Child T L) (tree now : List T × ℕ)
+      (cs new : List (Child T L)) (r : Result A (Option (Child T L))) → Beside place child cs new r
+      → IsHere piece child → (items_in cs, height_in cs) ≡ tree → now ≡ (items_in new, height_in new)
+      → MatchResult r (λ _. now ≡ (spliced place 0 (items_of piece) tree.0, tree.1))
+      (λ back. (now ≡ tree) × (back ≡ part_of piece))
+  put_beside place piece child tree now cs new (Ok a) put here same is =
+      is ∙ (λ i. (put.0 i, put.1.0 i)) ∙ ap (λ (t : List T × ℕ). (spliced place 0 child.tree.0 t.0, t.1)) same
+      ∙ ap (λ (es : List T). (spliced place 0 es tree.0, tree.1)) (sym (items_here piece child here))
+  put_beside place piece child tree now cs new (Err e) left here same is = (
+    is ∙ ap (λ (xs : List (Child T L)). (items_in xs, height_in xs)) left.0 ∙ same,
+    left.1 ∙ is_here piece child here,
+  )

@@ -1,9 +1,9 @@
 //! How a tree takes an item or a lower tree in: in place, but for the nodes that others share, which are copied.
-ghost use Rattle.std.specs.Prelude.{◌≡◌, ◌+◌, ◌<◌, ◌≤◌, ◌^◌, ◌⊎◌, IfErr, None, OnOk, OnErr, MatchResult, Some};
+ghost use Rattle.std.specs.Prelude.{◌≡◌, ◌+◌, ◌<◌, ◌≤◌, ◌^◌, IfErr, None, OnOk, OnErr, MatchResult, Some};
 ghost use Rattle.std.specs.Prelude.{length, take};
 ghost use Rattle.handles.specs.Copies.{CopiesAreEqual};
-ghost use Rattle.sequence.specs.Nodes.{AreChildren, IsChild, IsLabelled, IsList, StandFor, height_in, items_in};
-ghost use Rattle.sequence.specs.Pieces.{Counts, Fits, GoesOn, IsHere, items_of, part_of};
+ghost use Rattle.sequence.specs.Nodes.{AreChildren, IsList, StandFor, height_in, items_in};
+ghost use Rattle.sequence.specs.Pieces.{Counts, Fits, GoesOn, IsHere, IsPart, items_of, part_of};
 ghost use Rattle.sequence.specs.Spots.{spliced};
 
 use crate::label::{Label, NewLabel};
@@ -129,16 +129,13 @@ fn beside<T: Clone, L: NewLabel<T>>(
 ) -> Result<(), Option<Child<T, L>>>
     requires copies { CopiesAreEqual T.is_clone × CopiesAreEqual L.is_clone }
     requires children { AreChildren L.label_of children.old.items }
-    requires child { IsChild (height_in children.old.items) child }
-    requires label { IsLabelled L.label_of child }
-    requires edge { (place ≡ 0) ⊎ (place ≡ length (items_in children.old.items)) }
+    requires part { IsPart L.label_of child 1 place (items_in children.old.items, height_in children.old.items) }
     requires room { length (items_in children.old.items) + length child.tree.0 < 2 ^ 64 }
-    ensures items { OnOk result (items_in children.new.items
-        ≡ spliced place 0 child.tree.0 (items_in children.old.items)) }
-    ensures height { height_in children.new.items ≡ height_in children.old.items }
-    ensures children { AreChildren L.label_of children.new.items }
-    ensures refused { OnErr result (items_in children.new.items ≡ items_in children.old.items) }
-    ensures back { IfErr result (λ back. back ≡ Some child) }
+    ensures { MatchResult result
+        (λ _. (items_in children.new.items ≡ spliced place 0 child.tree.0 (items_in children.old.items))
+            × ((height_in children.new.items ≡ height_in children.old.items)
+            × AreChildren L.label_of children.new.items))
+        (λ back. (children.new.items ≡ children.old.items) × (back ≡ Some child)) }
 {
     if place == 0 {
         // The first child becomes one behind another.

@@ -4,13 +4,13 @@ use Rattle.std.specs.Prelude.{Err, IfErr, Ok, OnOk, Result, is_ok}
 use Rattle.sequence.specs.declared.tree.Node.{Node}
 use Rattle.sequence.specs.declared.tree.Node.TheVariants.{Branch, Leaf}
 use Rattle.sequence.specs.Nodes.{AreChildren, IsChild, IsNode, height_in, items_in, seen}
-use Rattle.sequence.specs.Pieces.{Fits, items_of, part_of}
+use Rattle.sequence.specs.Pieces.{Fits, IsPart, items_of, part_of}
 use Rattle.sequence.specs.Spots.{Leads, spliced}
 use Rattle.sequence.proofs.Calls.{kept_at}
 use Rattle.sequence.proofs.Nodes.Copied.{IsMade, made}
 use Rattle.sequence.proofs.Nodes.Ended.{IsEnded}
-use Rattle.sequence.proofs.Pieces.{IsIn, count_in, counts, fits_in, is_here, items_here, lower_in, part_here, put_back}
-use Rattle.sequence.proofs.Pieces.{put_in, put_under_it, room_in, same_part, within_in}
+use Rattle.sequence.proofs.Pieces.{IsIn, beside_are, count_in, counts, fits_in, items_here, lower_in, part_here}
+use Rattle.sequence.proofs.Pieces.{put_back, put_beside, put_in, put_under_it, room_in, same_part, within_in}
 use Rattle.sequence.proofs.tree.Tree.+insert.Given as given
 use Rattle.sequence.proofs.tree.Tree.+insert.Goals as goal
 use Rattle.sequence.proofs.tree.Tree.+insert.Goals.{After-insert, After-insert-arg-1, In-Branch, In-Leaf, In-Ok}
@@ -113,24 +113,12 @@ beside-requires-clause-copies g t c = c.requires.copies
 pub beside-requires-clause-children : goal.beside-requires-clause-children
 beside-requires-clause-children g t c = (branch g t (goal.at.beside-requires-clause-children g t c).In-Branch).whole
 
-pub beside-requires-clause-child : goal.beside-requires-clause-child
-beside-requires-clause-child g t c =
-    let node = branch g t (goal.at.beside-requires-clause-child g t c).In-Branch in
-    let part = part_here g.L.Label.label_of c.args.piece c.in-Err.child c.args.place c.args.self.now c.in-Err.ensures
-    c.requires.fits in
-    subst (λ h. IsChild h c.in-Err.child) (part.level ∙ sym (ap (λ t. t.1) node.same)) part.whole
-
-pub beside-requires-clause-label : goal.beside-requires-clause-label
-beside-requires-clause-label g t c =
+pub beside-requires-clause-part : goal.beside-requires-clause-part
+beside-requires-clause-part g t c =
+    let node = branch g t (goal.at.beside-requires-clause-part g t c).In-Branch in
+    subst (IsPart g.L.Label.label_of c.in-Err.child 1 c.args.place) (sym node.same)
     (part_here g.L.Label.label_of c.args.piece c.in-Err.child c.args.place c.args.self.now c.in-Err.ensures
-    c.requires.fits).label
-
-pub beside-requires-clause-edge : goal.beside-requires-clause-edge
-beside-requires-clause-edge g t c =
-    let node = branch g t (goal.at.beside-requires-clause-edge g t c).In-Branch in
-    let part = part_here g.L.Label.label_of c.args.piece c.in-Err.child c.args.place c.args.self.now c.in-Err.ensures
-    c.requires.fits in
-    subst (λ tree. (c.args.place ≡ 0) ⊎ (c.args.place ≡ length tree.0)) (sym node.same) part.edge
+    c.requires.fits)
 
 pub beside-requires-clause-room : goal.beside-requires-clause-room
 beside-requires-clause-room g t c =
@@ -143,23 +131,16 @@ pub invariant_of-self-in-Err : goal.invariant_of-self-in-Err
 invariant_of-self-in-Err g t c =
     let at = goal.at.invariant_of-self-in-Err g t c in
     subst (IsNode g.L.Label.label_of) (sym (written g t at.In-Ok (Branch c.beside.new.children)))
-    c.beside.ensures.children
+    (beside_are g.L.Label.label_of c.args.place c.in-Err.child c.in-Branch.children.items c.beside.new.children.items
+    c.beside.result c.beside.ensures (branch g t at.In-Branch).whole)
 
 pub returns-in-Err : goal.returns-in-Err
 returns-in-Err g t c =
-    let node = branch g t (goal.at.returns-in-Err g t c).In-Branch in
-    let here = c.in-Err.ensures in
-    let did = c.beside.ensures in
-    put_in c.args.place (items_of c.args.piece) (part_of c.args.piece) c.args.self.now _
-    (items_in c.in-Branch.children.items) (items_in c.beside.new.children.items)
-    (height_in c.in-Branch.children.items) (height_in c.beside.new.children.items) c.beside.result node.same
-    (ap (λ node. seen node) (written g t (goal.at.returns-in-Err g t c).In-Ok (Branch c.beside.new.children)))
-    did.height
-    (subst (λ es. OnOk c.beside.result (items_in c.beside.new.children.items ≡ spliced c.args.place 0 es
-    (items_in c.in-Branch.children.items))) (sym (items_here g.L.Label.label_of c.args.piece c.in-Err.child here))
-    did.items) did.refused
-    (subst (λ part. IfErr c.beside.result (λ back. back ≡ part)) (is_here g.L.Label.label_of c.args.piece c.in-Err.child
-    here) did.back)
+    let at = goal.at.returns-in-Err g t c in
+    put_beside g.L.Label.label_of c.args.place c.args.piece c.in-Err.child c.args.self.now _
+    c.in-Branch.children.items c.beside.new.children.items c.beside.result c.beside.ensures c.in-Err.ensures
+    (branch g t at.In-Branch).same
+    (ap (λ node. seen node) (written g t at.In-Ok (Branch c.beside.new.children)))
 
 pub spot_of-requires-clause-children : goal.spot_of-requires-clause-children
 spot_of-requires-clause-children g t c =

@@ -32,11 +32,3 @@ past left spot =
 pub record IsEdge {T L : Type 0} (cs : List (Child T L)) (place at : ℕ) : Type 0 where
   pub some : 0 < at
   pub is : place ≡ length (items_in (take at cs))
-
--- the place is before all of that child, or each part of it has so many items, which is enough for its height
-pub record Parts {T L : Type 0} (cs : List (Child T L)) (place few : ℕ) (spot : Spot) : Type 0 where
-  pub within : spot.child < length cs
-  pub is : place ≡ length (items_in (take spot.child cs)) + spot.place
-  pub least : (d : Child T L) → few ≡ 2 ^ (slice_index_or cs spot.child d).tree.1
-  pub front : 0 < spot.place → few ≤ spot.place
-  pub back : 0 < spot.place → (d : Child T L) → spot.place + few ≤ length (slice_index_or cs spot.child d).tree.0

@@ -5,15 +5,15 @@ use Rattle.std.specs.List.{insert}
 use Rattle.std.specs.Prelude.{Err, MatchResult, Ok, Result}
 use Rattle.std.proofs.lemmas.Bool.{cases_lt}
 use Rattle.std.proofs.lemmas.Grind.{pow_more}
-use Rattle.std.proofs.lemmas.List.{drop_all, length-take-le, take_more_set}
+use Rattle.std.proofs.lemmas.List.{drop_all, get_or_default, length-take-le, take_more_set}
 use Rattle.std.proofs.lemmas.Nat.{pow_pos}
 use Rattle.std.proofs.Math.Seq.{take_at}
 use Rattle.sequence.specs.declared.tree.Child.{Child}
 use Rattle.sequence.specs.declared.tree.search.Spot.{Spot}
 use Rattle.sequence.specs.Nodes.{AreChildren, AreCut, AreHalves, IsChild, StandFor, height_in, items_in}
-use Rattle.sequence.specs.Spots.{IsEdge, Leads, Parts}
+use Rattle.sequence.specs.Spots.{IsEdge, Leads}
 use Rattle.sequence.proofs.Nodes.Children.{items_append, length-parts}
-use Rattle.sequence.proofs.Nodes.Placed.{stand_on}
+use Rattle.sequence.proofs.Nodes.Placed.{child_here, stand_on}
 use Rattle.sequence.proofs.Shapes.Joined.{split_stands}
 
 -- half of what a child one level higher has at least
@@ -56,15 +56,6 @@ module _ {T L : Type 0} where
     ];
     is = omega (arith, is);
   }
-
-  -- so a child with the place in it is high enough to become two there
-  pub part_asks : (cs : List (Child T L)) (place few : ℕ) (spot : Spot) (d : Child T L) → Parts cs place few spot
-      → d ≡ get_or cs spot.child d → 0 < spot.place
-      → (few ≡ 2 ^ d.tree.1) × ((few ≤ spot.place) × (spot.place + few ≤ length d.tree.0))
-  part_asks cs place few spot d parts is some = (
-    parts.least d ∙ ap (λ (c : Child T L). 2 ^ c.tree.1) (sym is),
-    (parts.front some, omega (arith, parts.back some d, ap (λ (c : Child T L). length c.tree.0) is)),
-  )
 
 module _ {T L : Type 0} {label_of : T → L} where
   -- the place stays between two children if those before it stay
@@ -135,17 +126,26 @@ module _ {T L : Type 0} {label_of : T → L} where
           },
         )
 
-  -- where the item behind the place is tells where the place is
-  pub parts_are : (cs : List (Child T L)) (place least : ℕ) (spot : Spot) → AreChildren label_of cs
-      → least ≡ 2 ^ height_in cs → Leads cs (place + 1) spot → (0 < spot.place - 1 → least / 2 ≤ spot.place - 1)
-      → (0 < spot.place - 1 → (d : Child T L)
-      → spot.place - 1 + least / 2 ≤ length (get_or cs spot.child d).tree.0)
-      → Parts cs place (least / 2) (record { child = spot.child; place = spot.place - 1 })
-  parts_are cs place least spot are is leads front back = record {
-    within = leads.within;
-    is = omega (arith, leads.is, leads.inner (omega arith));
-    least = λ d. half_is (get_or cs spot.child d).tree.1 (height_in cs) least
-        (are.each spot.child d leads.within).level is;
-    front = front;
-    back = back;
-  }
+  -- a child around a place asks for no more to become two there
+  pub part_asks : (cs : List (Child T L)) (place least : ℕ) (spot : Spot) (d e : Child T L) → AreChildren label_of cs
+      → Leads cs (place + 1) spot → d ≡ get_or cs spot.child d → e ≡ get_or cs spot.child e
+      → least ≡ 2 ^ height_in cs → least / 2 ≤ spot.place - 1 → least / 2 ≤ e.len - (spot.place - 1)
+      → (least / 2 ≡ 2 ^ d.tree.1)
+      × ((least / 2 ≤ spot.place - 1) × (spot.place - 1 + least / 2 ≤ length d.tree.0))
+  part_asks cs place least spot d e are leads is read least_is front back =
+      let old = child_here cs spot.child d are leads.within is in
+      let level = ap (λ (c : Child T L). c.tree.1 + 1) is ∙ (are.each spot.child d leads.within).level in
+      let same = read ∙ get_or_default cs spot.child e d leads.within ∙ sym is in (
+        half_is d.tree.1 (height_in cs) least level least_is,
+        (
+          front,
+          omega (
+            arith,
+            back,
+            ap (λ (c : Child T L). c.len) same,
+            old.counted,
+            leads.inside d,
+            ap (λ (c : Child T L). length c.tree.0) is,
+          ),
+        ),
+      )

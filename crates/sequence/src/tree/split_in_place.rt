@@ -1,10 +1,10 @@
 //! How a tree becomes two at a place: in place, but for the nodes that others share, which are copied.
-ghost use Rattle.std.specs.Prelude.{◌≡◌, ◌+◌, ◌-◌, ◌/◌, ◌<◌, ◌≤◌, ◌^◌, IfOk, MatchResult, drop, length, take};
+ghost use Rattle.std.specs.Prelude.{◌≡◌, ◌+◌, ◌-◌, ◌<◌, ◌≤◌, ◌^◌, MatchResult, length, take};
 ghost use Rattle.handles.specs.Copies.{CopiesAreEqual};
 ghost use Rattle.sequence.specs.Nodes.{AreChildren, AreCut, AreHalves, StandFor, height_in, items_in};
-ghost use Rattle.sequence.specs.Spots.{IsEdge, Parts};
+ghost use Rattle.sequence.specs.Spots.{IsEdge};
 
-use crate::label::{Label, NewLabel};
+use crate::label::NewLabel;
 use crate::tree::insert::join_if_small;
 use crate::tree::search::{Spot, spot_of};
 use crate::tree::split::{split_branch, split_leaf};
@@ -38,7 +38,8 @@ impl<T: Clone, L: NewLabel<T>> Tree<T, L> {
 }
 
 // Takes the items from that place on out of a branch, into a child. `least` is how many items a branch of this height
-// has at least. If it is blocked, the items stay in the branch, but maybe under other children.
+// has at least. Small children that then stand beside the cut are joined with their neighbours. If it is blocked, the
+// items stay in the branch, but maybe under other children.
 #[cycle(split_in_place)]
 fn split_children<T: Clone, L: NewLabel<T>>(
     children: &mut Vec<Child<T, L>>,
@@ -56,10 +57,14 @@ fn split_children<T: Clone, L: NewLabel<T>>(
         (λ _. StandFor L.label_of children.old.items children.new.items) }
 {
     let at = edge_at(children, alloc, place, least)?;
-    split_between(children, alloc, at)
+    join_before(children, at + 1, alloc);
+    let right = split_branch(children, alloc, at)?;
+    join_before(children, at - 1, alloc);
+    Ok(right)
 }
 
-// The number of the first child behind the place, once the child around it is two.
+// The number of the first child behind the place, once the child around it is two. This is blocked if a part of that
+// child would not have enough items for its height.
 #[cycle(split_in_place)]
 fn edge_at<T: Clone, L: NewLabel<T>>(
     children: &mut Vec<Child<T, L>>,
@@ -76,9 +81,14 @@ fn edge_at<T: Clone, L: NewLabel<T>>(
         (λ at. StandFor L.label_of children.old.items children.new.items × IsEdge children.new.items place at)
         (λ _. StandFor L.label_of children.old.items children.new.items) }
 {
-    let Spot { child, place } = spot_around(children, place, least)?;
+    // The item behind the place is in that child, the last of so many there.
+    let Spot { child, place: up } = spot_of(children, place + 1);
+    let place = up - 1;
     if place == 0 {
         return Ok(child);
+    }
+    if place < least / 2 || children[child].len - place < least / 2 {
+        return Err(Blocked);
     }
     children.reserve(1)?;
     let left = &mut children[child];
@@ -88,51 +98,6 @@ fn edge_at<T: Clone, L: NewLabel<T>>(
         unreachable!()
     };
     Ok(child + 1)
-}
-
-// Where the place is. If it is in a child, each part of the child has enough items for its height, or this is blocked.
-fn spot_around<T, L: Label<T>>(
-    children: &[Child<T, L>],
-    place: usize,
-    least: usize,
-) -> Result<Spot, Blocked>
-    requires children { AreChildren L.label_of children.now }
-    requires least { least ≡ 2 ^ height_in children.now }
-    requires within { place < length (items_in children.now) }
-    ensures { IfOk result (Parts children.now place (least / 2)) }
-{
-    // The item behind the place is in that child, the last of so many there.
-    let Spot { child, place: up } = spot_of(children, place + 1);
-    let place = up - 1;
-    if place == 0 {
-        return Ok(Spot { child, place });
-    }
-    if place < least / 2 || children[child].len - place < least / 2 {
-        return Err(Blocked);
-    }
-    Ok(Spot { child, place })
-}
-
-// Takes the children from that number on out of a branch, into a child. Small children that then stand beside the cut
-// are joined with their neighbours.
-fn split_between<T: Clone, L: NewLabel<T>>(
-    children: &mut Vec<Child<T, L>>,
-    alloc: Global,
-    at: usize,
-) -> Result<Child<T, L>, Blocked>
-    requires copies { CopiesAreEqual T.is_clone × CopiesAreEqual L.is_clone }
-    requires children { AreChildren L.label_of children.old.items }
-    requires some { 0 < at }
-    requires sides { (2 ^ height_in children.old.items ≤ length (items_in (take at children.old.items)))
-        × (2 ^ height_in children.old.items ≤ length (items_in (drop at children.old.items))) }
-    ensures children { AreChildren L.label_of children.new.items }
-    ensures cut { MatchResult result (AreCut L.label_of (length (items_in (take at children.old.items)))
-        children.old.items children.new.items) (λ _. StandFor L.label_of children.old.items children.new.items) }
-{
-    join_before(children, at + 1, alloc);
-    let right = split_branch(children, alloc, at)?;
-    join_before(children, at - 1, alloc);
-    Ok(right)
 }
 
 // Makes one child of the one of that number and the one before it, if there are both, both are small and it is not

@@ -96,6 +96,12 @@ module _ {T L : Type 0} (label_of : T → L) where
     pub height : height_in cs ≡ tree.1 + 1
     pub children : AreChildren cs
 
+  -- the items of a tree can stand behind those of one that is as high, and that is the label of the first of them
+  pub record Follows (tree next : List T × ℕ) (label : L) : Type 0 where
+    pub list : IsList (tree.0 ++ next.0)
+    pub level : tree.1 ≡ next.1
+    pub first : first_label label_of next.0 ≡ Some label
+
   -- other children with the same items, which are as high
   pub record StandFor (old new : List (Child T L)) : Type 0 where
     pub items : items_in new ≡ items_in old

@@ -12,7 +12,7 @@ module _ {T L : Type 0} where
   copy_itself (Branch cs) = refl
 
   -- a copy has the items and the height
-  seen_copy : (node copy : Node T L) → IsCopy node copy → seen copy ≡ seen node
+  pub seen_copy : (node copy : Node T L) → IsCopy node copy → seen copy ≡ seen node
   seen_copy (Leaf es) (Leaf copy) is = ap (λ es. (es, 0)) is
   seen_copy (Branch cs) (Branch copy) is = ap (λ (cs : List (Child T L)). (items_in cs, height_in cs)) is
   seen_copy (Leaf es) (Branch copy) is = absurd is
@@ -20,7 +20,7 @@ module _ {T L : Type 0} where
 
 module _ {T L : Type 0} (label_of : T → L) where
   -- and is whole
-  whole_copy : (node copy : Node T L) → IsNode label_of node → IsCopy node copy → IsNode label_of copy
+  pub whole_copy : (node copy : Node T L) → IsNode label_of node → IsCopy node copy → IsNode label_of copy
   whole_copy (Leaf es) (Leaf copy) whole is = subst IsList (sym is) whole
   whole_copy (Branch cs) (Branch copy) whole is = subst (AreChildren label_of) (sym is) whole
   whole_copy (Leaf es) (Branch copy) whole is = absurd is

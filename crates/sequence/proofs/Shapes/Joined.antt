@@ -2,7 +2,7 @@
 use Rattle.std.proofs.Common.{◌≡◌, ◌+◌, ◌-◌, ◌<◌, ◌≤◌, ◌^◌, ℕ, suc, List, [], ◌∷◌, ◌++◌, length, take, drop}
 use Rattle.std.proofs.Common.{get_or, set, ap, sym, ◌∙◌, subst, arith, length-append, length-drop, append_assoc}
 use Rattle.std.proofs.Common.{append-nil, add-one, inl, inr, cond}
-use Rattle.std.specs.Prelude.{Bool, Some}
+use Rattle.std.specs.Prelude.{Bool}
 use Rattle.std.specs.List.{All, insert, remove}
 use Rattle.std.proofs.lemmas.List.{drop_more, get_or_default, set-get_or, set_at, set_split, length-take-le, take_more}
 use Rattle.std.proofs.lemmas.List.Elements.{All-cons, All-nil}
@@ -12,7 +12,7 @@ use Rattle.std.proofs.lemmas.Nat.{pow_pos}
 use Rattle.std.proofs.Math.Seq.{get_or_at, take_at}
 use Rattle.sequence.specs.declared.tree.Child.{Child}
 use Rattle.sequence.specs.declared.tree.search.Spot.{Spot}
-use Rattle.sequence.specs.Nodes.{AreChildren, AreHalves, CanLose, IsChild, IsLabelled, IsList, StandFor, first_label}
+use Rattle.sequence.specs.Nodes.{AreChildren, AreHalves, CanLose, Follows, IsChild, IsLabelled, IsList, StandFor}
 use Rattle.sequence.specs.Nodes.{height_in, items_in}
 use Rattle.sequence.specs.Spots.{Leads, past}
 use Rattle.sequence.proofs.Nodes.Children.{items_append, leads_at, length-more, split_at}
@@ -92,9 +92,7 @@ module _ {X : Type 0} where
 module _ {T L : Type 0} (label_of : T → L) where
   -- what the first of two children asks for to take over the second
   pub record FitsBehind (d e : Child T L) : Type 0 where
-    pub list : IsList (d.tree.0 ++ e.tree.0)
-    pub level : d.tree.1 ≡ e.tree.1
-    pub label : first_label label_of e.tree.0 ≡ Some e.label
+    pub follows : Follows label_of d.tree e.tree e.label
     pub room : d.len + e.len < 2 ^ 64
 
   -- room that was made for a spot
@@ -188,9 +186,11 @@ module _ {T L : Type 0} {label_of : T → L} where
       let one = are.each 0 d (omega arith) in
       let two = are.each 1 d (omega arith) in
       record {
-        list = list;
-        level = omega (arith, one.level, two.level);
-        label = (are.labels 0 d (omega arith)).first;
+        follows = record {
+          list = list;
+          level = omega (arith, one.level, two.level);
+          first = (are.labels 0 d (omega arith)).first;
+        };
         room = omega (arith, one.counted, two.counted, list.room, length-append d.tree.0 e.tree.0);
       }
 

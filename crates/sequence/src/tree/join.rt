@@ -1,9 +1,8 @@
 //! How two nodes become one: what the second one has moves behind what the first one has.
-ghost use Rattle.std.specs.Prelude.{◌≡◌, ℕ, ◌+◌, ◌<◌, ◌≤◌, ◌^◌, ◌++◌, ◌∷◌, [], MatchResult, OnErr, OnOk};
-ghost use Rattle.std.specs.Prelude.{Some, length, slice_index_or, take};
+ghost use Rattle.std.specs.Prelude.{◌≡◌, ℕ, ◌+◌, ◌<◌, ◌≤◌, ◌^◌, ◌++◌, ◌∷◌, [], MatchResult, OnOk, length};
+ghost use Rattle.std.specs.Prelude.{slice_index_or, take};
 ghost use Rattle.handles.specs.Copies.{CopiesAreEqual};
-ghost use Rattle.sequence.specs.Nodes.{AreChildren, CanLose, IsList, IsNode, StandFor};
-ghost use Rattle.sequence.specs.Nodes.{first_label, seen};
+ghost use Rattle.sequence.specs.Nodes.{AreChildren, CanLose, Follows, IsCopy, IsNode, StandFor, seen};
 ghost use Rattle.sequence.specs.Spots.{Leads};
 
 use crate::label::{Label, NewLabel};
@@ -34,39 +33,20 @@ pub(crate) fn join_children<T: Clone, L: NewLabel<T>>(
 {
     // For the proof: its clause says that there is room for what is taken out here, if it has to go back.
     children.reserve(0)?;
-    let next = children.remove(at + 1);
-    let Err(next) = children[at].take_over(alloc, next) else {
+    let Child {
+        mut label,
+        len,
+        tree,
+    } = children.remove(at + 1);
+    let child = &mut children[at];
+    let Err(tree) = child.tree.take_over(alloc, tree, &mut label) else {
+        child.len += len;
         return Ok(());
     };
-    let Ok(()) = children.insert(at + 1, next) else {
+    let Ok(()) = children.insert(at + 1, Child { label, len, tree }) else {
         unreachable!()
     };
     Err(AllocError)
-}
-
-impl<T: Clone, L: NewLabel<T>> Child<T, L> {
-    // Takes over what the next child has. A refusal gives that back.
-    fn take_over(&mut self, alloc: Global, next: Child<T, L>) -> Result<(), Child<T, L>>
-        requires copies { CopiesAreEqual T.is_clone × CopiesAreEqual L.is_clone }
-        requires children { AreChildren L.label_of (self.old ∷ next ∷ []) }
-        ensures { MatchResult result
-            (λ _. self.new ≡ record self.old {
-              len = self.old.len + next.len;
-              tree = (self.old.tree.0 ++ next.tree.0, self.old.tree.1);
-            })
-            (λ child. (self.new ≡ self.old) × (child ≡ next)) }
-    {
-        let Child {
-            mut label,
-            len,
-            tree,
-        } = next;
-        if let Err(tree) = self.tree.take_over(alloc, tree, &mut label) {
-            return Err(Child { label, len, tree });
-        }
-        self.len += len;
-        Ok(())
-    }
 }
 
 impl<T: Clone, L: NewLabel<T>> Tree<T, L> {
@@ -79,9 +59,7 @@ impl<T: Clone, L: NewLabel<T>> Tree<T, L> {
         label: &mut L,
     ) -> Result<(), Tree<T, L>>
         requires copies { CopiesAreEqual T.is_clone × CopiesAreEqual L.is_clone }
-        requires list { IsList (self.old.0 ++ next.0) }
-        requires level { self.old.1 ≡ next.1 }
-        requires label { first_label L.label_of next.0 ≡ Some label.old }
+        requires fits { Follows L.label_of self.old next label.old }
         ensures { MatchResult result
             (λ _. self.new ≡ (self.old.0 ++ next.0, self.old.1))
             (λ tree. (self.new ≡ self.old) × ((label.new ≡ label.old) × (tree ≡ next))) }
@@ -133,15 +111,11 @@ impl<T: Drop, L: Label<T> + Drop> Node<T, L> {
     // Moves what a node of the same kind has behind what this one has. Its first child gets the label.
     fn append(&mut self, other: &mut Node<T, L>, label: &mut L) -> Result<(), AllocError>
         requires whole { IsNode L.label_of self.old × IsNode L.label_of other.old }
-        requires list { IsList ((seen self.old).0 ++ (seen other.old).0) }
-        requires level { (seen self.old).1 ≡ (seen other.old).1 }
-        requires label { first_label L.label_of (seen other.old).0 ≡ Some label.old }
-        ensures whole { IsNode L.label_of self.new }
-        ensures joined { OnOk result (seen self.new ≡ ((seen self.old).0 ++ (seen other.old).0, (seen self.old).1)) }
-        ensures same { OnErr result (seen self.new ≡ seen self.old) }
-        ensures label { OnErr result (label.new ≡ label.old) }
-        ensures other { OnErr result (seen other.new ≡ seen other.old) }
-        ensures refused { OnErr result (IsNode L.label_of other.new) }
+        requires fits { Follows L.label_of (seen self.old) (seen other.old) label.old }
+        ensures { MatchResult result
+            (λ _. IsNode L.label_of self.new
+                × (seen self.new ≡ ((seen self.old).0 ++ (seen other.old).0, (seen self.old).1)))
+            (λ _. IsCopy self.old self.new × (IsCopy other.old other.new × (label.new ≡ label.old))) }
     {
         match (self, other) {
             (Node::Leaf(items), Node::Leaf(more)) => {

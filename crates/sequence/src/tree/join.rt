@@ -114,7 +114,7 @@ impl<T: Drop, L: Label<T> + Drop> Node<T, L> {
         requires fits { Follows L.label_of (seen self.old) (seen other.old) label.old }
         ensures { MatchResult result
             (λ _. IsNode L.label_of self.new
-                × (seen self.new ≡ ((seen self.old).0 ++ (seen other.old).0, (seen self.old).1)))
+            × (seen self.new ≡ ((seen self.old).0 ++ (seen other.old).0, (seen self.old).1)))
             (λ _. IsCopy self.old self.new × (IsCopy other.old other.new × (label.new ≡ label.old))) }
     {
         match (self, other) {

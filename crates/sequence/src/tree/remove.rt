@@ -78,39 +78,18 @@ fn spare_for<T: Clone, L: NewLabel<T>>(
     if children.len() == 1 || !children[spot.child].tree.is_thin() {
         return Ok(spot);
     }
-    let joined = join_at(children, spot, alloc)?;
-    // A small last part would be thin again, and be joined at the next removal.
-    room_under(children, joined, alloc, false)
-}
-
-// The spot once its child is joined with the next, or the last one with the one before.
-fn join_at<T: Clone, L: NewLabel<T>>(
-    children: &mut Vec<Child<T, L>>,
-    spot: Spot,
-    alloc: Global,
-) -> Result<Spot, AllocError>
-    requires copies { CopiesAreEqual T.is_clone × CopiesAreEqual L.is_clone }
-    requires children { AreChildren L.label_of children.old.items }
-    requires within { spot.child < length children.old.items }
-    requires inside { (d : Child T L) → spot.place ≤ length (slice_index_or children.old.items spot.child d).tree.0 }
-    requires two { 1 < length children.old.items }
-    ensures same { StandFor L.label_of children.old.items children.new.items }
-    ensures leads { IfOk result (λ new. (place : ℕ) → Leads children.old.items place spot
-        → Leads children.new.items place new) }
-    ensures spare { IfOk result (λ new. (d : Child T L)
-        → CanLose (slice_index_or children.new.items new.child d).tree) }
-{
-    let Spot { child, place } = spot;
-    if child + 1 < children.len() {
-        join_children(children, child, alloc)?;
-        return Ok(spot);
+    let Spot {
+        mut child,
+        mut place,
+    } = spot;
+    if child + 1 == children.len() {
+        // The last one is joined with the one before.
+        child -= 1;
+        place += children[child].len;
     }
-    let before = children[child - 1].len;
-    join_children(children, child - 1, alloc)?;
-    Ok(Spot {
-        child: child - 1,
-        place: before + place,
-    })
+    join_children(children, child, alloc)?;
+    // A small last part would be thin again, and be joined at the next removal.
+    room_under(children, Spot { child, place }, alloc, false)
 }
 
 impl<T, L: Label<T>> Tree<T, L> {

@@ -35,10 +35,11 @@ returns g c =
           let own = w.in-Leaf-Leaf.is-0 in
           let other = w.in-Leaf-Leaf.is-1 in
           let list = subst IsList (λ i. (seen (own i)).0 ++ (seen (other i)).0) c.requires.fits.list in
-          accepted _ _ c.match-self.result _ w.result-is
-          (subst (IsNode g.L.Label.label_of) (sym w.self-is) (subst IsList (sym items) list),
-          ap seen w.self-is ∙ ap (λ es. (es, 0)) items
-          ∙ sym (λ i. ((seen (own i)).0 ++ (seen (other i)).0, (seen (own i)).1)))
+          accepted _ _ c.match-self.result _ w.result-is (
+            subst (IsNode g.L.Label.label_of) (sym w.self-is) (subst IsList (sym items) list),
+            ap seen w.self-is ∙ ap (λ es. (es, 0)) items
+                ∙ sym (λ i. ((seen (own i)).0 ++ (seen (other i)).0, (seen (own i)).1)),
+          )
       | in-Branch-Branch+in_ok-append-in-Branch-Branch w ↦
           let cs = w.in-Branch-Branch.children.items in
           let ds = w.in-Branch-Branch.more.items in
@@ -55,7 +56,8 @@ returns g c =
           let first = rw other at c.requires.fits.first ∙ ap (λ l. Some l) (sym w.swap.ensures.x_after) in
           let done = both_in cs ds w.append-in-Branch-Branch.new.self.items x l n
           w.in_ok-append-in-Branch-Branch.ensures.items are more level list long w.index_mut.ensures.value first in
-          accepted _ _ c.match-self.result _ w.result-is
-          (subst (IsNode g.L.Label.label_of) (sym w.self-is) done.children,
-          ap seen w.self-is ∙ done.same ∙ sym (λ i. ((seen (own i)).0 ++ (seen (other i)).0, (seen (own i)).1)))
+          accepted _ _ c.match-self.result _ w.result-is (
+            subst (IsNode g.L.Label.label_of) (sym w.self-is) done.children,
+            ap seen w.self-is ∙ done.same ∙ sym (λ i. ((seen (own i)).0 ++ (seen (other i)).0, (seen (own i)).1)),
+          )
     ]

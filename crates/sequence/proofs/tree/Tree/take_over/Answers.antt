@@ -56,8 +56,11 @@ returns-in-Err g c =
     let next = ap (λ node. seen node) c.deref_mut.ensures.value ∙ c.in_ok-other.ensures.0 in (
       ap (λ node. seen node) (c.make_mut.follows.holds _ (ap (λ r. is_ok r) c.in-Ok.is))
           ∙ seen_copy c.in-Ok.node.now _ c.in-Err.ensures.0 ∙ node.same,
-      (c.in-Err.ensures.1.1, ap (λ node. seen node) c.shareable.ensures
-          ∙ seen_copy c.deref_mut.result.now _ c.in-Err.ensures.1.0 ∙ next),
+      (
+        c.in-Err.ensures.1.1,
+        ap (λ node. seen node) c.shareable.ensures
+            ∙ seen_copy c.deref_mut.result.now _ c.in-Err.ensures.1.0 ∙ next,
+      ),
     )
 
 pub invariant_of-self-2 : goal.invariant_of-self-2

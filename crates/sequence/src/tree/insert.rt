@@ -63,8 +63,7 @@ impl<T: Clone, L: NewLabel<T>> Tree<T, L> {
 impl<T, L: Label<T>> Piece<T, L> {
     // How many items it has.
     fn len(&self) -> usize
-        requires { Counts self.now }
-        ensures { result ≡ length (items_of self.now) }
+        ensures { Counts self.now → result ≡ length (items_of self.now) }
     {
         match self {
             Piece::Item(_) => 1,

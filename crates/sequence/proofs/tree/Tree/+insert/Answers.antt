@@ -104,9 +104,6 @@ index_mut-child-requires g t c =
     (subst (λ cs. Leads cs c.args.place c.spot_of.result) c.deref.ensures.value c.spot_of.ensures) in
     subst (λ n. c.in-Ok-room_under.spot.child < n) (sym cs.ok.0) leads.within
 
-pub len-more-requires : goal.len-more-requires
-len-more-requires g t c = counts g.L.Label.label_of c.args.piece c.args.place c.args.self.now c.requires.fits
-
 pub beside-requires-clause-copies : goal.beside-requires-clause-copies
 beside-requires-clause-copies g t c = c.requires.copies
 
@@ -204,7 +201,7 @@ overflow_add-child g t c =
     let u = under g t at.After-insert-arg-1 (branch g t at.In-Branch) in
     count_in g.L.Label.label_of c.args.piece c.in-Ok-under.piece c.args.place c.args.self.now
     c.room_under.new.children.items c.in-Ok-room_under.spot c.index_mut-child.result.now u c.len-more.result
-    c.len-more.ensures
+    (c.len-more.ensures (counts g.L.Label.label_of c.args.piece c.args.place c.args.self.now c.requires.fits))
 
 -- the branch if the child stays
 left : (g : given.Over) (t : ℕ) (c : After-insert g t) → c.insert.new.self ≡ c.index_mut-child.result.now.tree
@@ -231,9 +228,11 @@ done : (g : given.Over) (t : ℕ) (c : After-insert g t)
     (record d { len = d.len + c.len-more.result; tree = c.insert.new.self })) went
 done g t c u is =
     let d = c.index_mut-child.result.now in
+    let more = c.len-more.ensures (counts g.L.Label.label_of c.args.piece c.args.place c.args.self.now
+    c.requires.fits) in
     put_under_it g.L.Label.label_of c.args.piece c.in-Ok-under.piece c.args.place c.args.self.now
     c.room_under.new.children.items c.in-Ok-room_under.spot d u c.insert.new.self (d.len + c.len-more.result) (Ok tt)
-    (ap (λ t. t.0) is) tt (ap (λ n. d.len + n) c.len-more.ensures) tt (ap (λ t. t.1) is)
+    (ap (λ t. t.0) is) tt (ap (λ n. d.len + n) more) tt (ap (λ t. t.1) is)
 
 pub invariant_of-self-in_err-insert : goal.invariant_of-self-in_err-insert
 invariant_of-self-in_err-insert g t c =

@@ -100,10 +100,9 @@ impl<K: Ord + Clone, V: Clone> TreeMap<K, V> {
         requires copies_of_values { CopiesAreEqual V.is_clone }
         ensures { IfOk result (λ both. both ≡ filter (λ e. is_some (lookup K.cmp e.0 other.now)) self.now) }
     {
-        let both = self
-            .as_entries()
-            .kept(alloc, |key, _| other.contains_key(key))?;
-        Ok(TreeMap::of(both))
+        let mut both = self.clone()?;
+        both.retain(alloc, |key, _| other.contains_key(key))?;
+        Ok(both)
     }
 
     /// Returns the entries of this map whose keys are not in `other`: `map.difference(alloc, &other)?`. O(n log m) for
@@ -123,10 +122,9 @@ impl<K: Ord + Clone, V: Clone> TreeMap<K, V> {
         requires copies_of_values { CopiesAreEqual V.is_clone }
         ensures { IfOk result (λ rest. rest ≡ filter (λ e. is_none (lookup K.cmp e.0 other.now)) self.now) }
     {
-        let rest = self
-            .as_entries()
-            .kept(alloc, |key, _| !other.contains_key(key))?;
-        Ok(TreeMap::of(rest))
+        let mut rest = self.clone()?;
+        rest.retain(alloc, |key, _| !other.contains_key(key))?;
+        Ok(rest)
     }
 }
 

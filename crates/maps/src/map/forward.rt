@@ -38,7 +38,8 @@ impl<K: Ord + Clone, V: Clone> TreeMap<K, V> {
         ensures { IfOk result (λ map. map ≡ with_entries K.cmp items.items []) }
     {
         if rises(&items) {
-            return Ok(TreeMap::of(Entries::of_rising(alloc, items)?));
+            let entries = LabelledSequence::of_items(alloc, items)?;
+            return Ok(TreeMap::of(Entries { entries }));
         }
         let mut map = Entries::new();
         for (key, value) in items {

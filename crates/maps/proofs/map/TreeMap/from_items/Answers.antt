@@ -10,7 +10,7 @@ use Rattle.maps.proofs.map.TreeMap.from_items.Goals.{In_ok-insert}
 pub returns-then-rises : goal.returns-then-rises
 returns-then-rises g c =
     let rising = rw c.deref.ensures.value at (c.rises.ensures c.if-rises.true) in
-    c.of.ensures ∙ c.in_ok-of_rising.ensures
+    c.of.ensures ∙ c.in_ok-entries.ensures
     ∙ sym (with_rising g.K.Ord.cmp g.met.K.Ord.total [] c.args.items.items rising)
 
 pub loop-key-init : goal.loop-key-init

@@ -56,6 +56,10 @@ eq-reverse Less = refl
 eq-reverse Equal = refl
 eq-reverse Greater = refl
 
+pub alike_turned : {K : Type 0} (cmp : K → K → Ordering) → IsTotalOrder cmp → (j k : K)
+    → is_eq (cmp j k) ≡ is_eq (cmp k j)
+alike_turned cmp total j k = ap is_eq (total.antisymm j k) ∙ eq-reverse (cmp k j)
+
 -- what each key has after the removal of the one that is equal to what is asked
 pub lookup_without : {K V : Type 0} (cmp : K → K → Ordering) → IsTotalOrder cmp → (order : K → Ordering)
     → IsForm cmp order → (j : K) (es : List (K × V)) → IsRising cmp es

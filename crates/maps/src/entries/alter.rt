@@ -33,12 +33,11 @@ impl<K: Ord + Clone, V: Clone> Entries<K, V> {
         match change(before) {
             None => {
                 self.remove(alloc, &key)?;
-                Ok(())
             }
             Some(value) => {
                 self.insert(alloc, key, value)?;
-                Ok(())
             }
         }
+        Ok(())
     }
 }

@@ -81,9 +81,9 @@ impl<K: Ord + Clone, V: Clone> TreeMap<K, V> {
         requires copies_of_values { CopiesAreEqual V.is_clone }
         ensures { IfOk result (λ both. both ≡ with_entries K.cmp self.now other.now) }
     {
-        let mut both = other.as_entries().version()?;
+        let mut both = other.clone()?;
         both.append(alloc, self)?;
-        Ok(TreeMap::of(both))
+        Ok(both)
     }
 
     /// Returns the entries of this map whose keys are also in `other`: `map.intersection(alloc, &other)?`. O(n log m)

@@ -25,7 +25,6 @@ mod merge;
 mod near;
 mod pop;
 mod range;
-mod split;
 
 use crate::cut::{Below, UpTo};
 use crate::entry::Entry;

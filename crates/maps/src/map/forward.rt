@@ -66,8 +66,12 @@ impl<K: Ord + Clone, V: Clone> TreeMap<K, V> {
         ensures rest { OnOk result (self.new ≡ take (rank_by (Q.order key) self.old) self.old) }
         ensures refused { OnErr result (self.new ≡ self.old) }
     {
-        let rest = self.as_mut_entries().split_off(alloc, key)?;
-        Ok(TreeMap::of(rest))
+        let entries = self.as_mut_entries();
+        let at = entries.rank(key);
+        match entries.entries.split_off(alloc, at) {
+            Ok(entries) => Ok(TreeMap::of(Entries { entries })),
+            Err(_) => Err(AllocError),
+        }
     }
 
     /// Returns a map with the entries of both maps, and with this map's value under a key of both:

@@ -2,7 +2,7 @@
 ghost use Rattle.std.specs.Prelude.{◌≡◌, ◌≤◌, length};
 ghost use Rattle.std.specs.Map.Iter.{ShowsInOrder, ShowsValuesInOrder, deref};
 ghost use Rattle.std.specs.Range.Bound.{bound_map};
-ghost use Rattle.maps.specs.Bounds.{before_start, entries_between, entries_within, rank_with_by, up_to_end};
+ghost use Rattle.maps.specs.Bounds.{entries_between, entries_within, rank_with_by};
 
 use crate::cut::UpTo;
 use crate::entries::Entries;
@@ -32,33 +32,19 @@ impl<K: Ord, V> Entries<K, V> {
         ensures runs { ShowsInOrder (deref {X = K × V}) }
         ensures runs_of_values { ShowsValuesInOrder (deref {X = K × V}) }
     {
-        let from = self.before_start(start);
-        let to = self.up_to_end(end);
-        self.entries.range(from..to)
-    }
-
-    // The number of keys before the start: the index of the first entry of the range.
-    fn before_start<Q: Query<K>>(&self, start: Bound<Q>) -> usize
-        ensures before { result ≡ before_start (bound_map Q.order start) self.now }
-        ensures within { result ≤ length self.now }
-    {
-        match start {
+        // The number of keys before the start: the index of the first entry of the range.
+        let from = match start {
             Bound::Included(key) => self.rank(key),
             Bound::Excluded(key) => self.rank_with(key),
             Bound::Unbounded => 0,
-        }
-    }
-
-    // The number of keys up to the end: the index behind the last entry of the range.
-    fn up_to_end<Q: Query<K>>(&self, end: Bound<Q>) -> usize
-        ensures up_to { result ≡ up_to_end (bound_map Q.order end) self.now }
-        ensures within { result ≤ length self.now }
-    {
-        match end {
+        };
+        // The number of keys up to the end: the index behind the last entry of the range.
+        let to = match end {
             Bound::Included(key) => self.rank_with(key),
             Bound::Excluded(key) => self.rank(key),
             Bound::Unbounded => self.len(),
-        }
+        };
+        self.entries.range(from..to)
     }
 
     // The number of keys at or below `key`.

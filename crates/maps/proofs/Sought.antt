@@ -1,6 +1,6 @@
 -- What the list did to the entry that is sought, and what the map did by that.
 use Rattle.std.proofs.Common.{◌≡◌, List, set, ap, sym, ◌∙◌, subst, cond, option_map}
-use Rattle.std.specs.Prelude.{Result, Ok, Err, Option, None, Some, IfNone, IfOk, IfSome, IsSomeAnd, MatchOption}
+use Rattle.std.specs.Prelude.{Result, Ok, Err, Option, None, Some, IfNone, IfOk, IfSome}
 use Rattle.std.specs.Prelude.{OnErr, OnOk}
 use Rattle.std.specs.Ordering.{is_eq}
 use Rattle.std.specs.Cmp.{IsTotalOrder}
@@ -14,14 +14,6 @@ use Rattle.maps.proofs.Lookup.{lookup_with}
 use Rattle.maps.proofs.Rising.{rising_with}
 use Rattle.maps.proofs.Under.{found_missing, found_there, with_found, with_missing}
 use Rattle.maps.proofs.Under.{without_found, without_missing}
-
--- what a closure that reads the value gives of an entry, if there is one
-pub values : {K V : Type 0} (post : K × V → V → Type 0) → ((e : K × V) (v : V) → post e v → v ≡ e.1)
-    → (entry : Option (K × V)) (value : Option V) → MatchOption entry (value ≡ None) (λ e. IsSomeAnd value (post e))
-    → value ≡ option_map (λ e. e.1) entry
-values post reads None value is = is
-values post reads (Some e) None is = absurd is
-values post reads (Some e) (Some v) is = ap (λ v. Some v) (reads e v is)
 
 module _ {K V : Type 0} (cmp : K → K → Ordering) (total : IsTotalOrder cmp) (es new : List (K × V))
     (s : IsRising cmp es) where

@@ -208,8 +208,11 @@ impl<K: Ord + Clone, V: Clone> Entries<K, V> {
         ensures none { lookup_by (Q.order key) self.old ≡ None → IsOk result }
         ensures refused { OnErr result (self.new ≡ self.old) }
     {
-        let taken = self.entries.take_out(alloc, UpTo { query: key })?;
-        Ok(taken.map(|(_, value)| value))
+        let value = match self.entries.take_out(alloc, UpTo { query: key })? {
+            None => None,
+            Some((_key, value)) => Some(value),
+        };
+        Ok(value)
     }
 
     /// Calls `change` on the value under `key` and returns its result, or returns `None` if the map has no such key:

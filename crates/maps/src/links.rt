@@ -1,5 +1,5 @@
 //! The nodes of a stack.
-ghost use Rattle.std.specs.Prelude.{◌≡◌, ◌∷◌, [], ◌↔◌, IfSome, None, length};
+ghost use Rattle.std.specs.Prelude.{◌≡◌, ◌∷◌, [], ◌↔◌, IfSome, None};
 
 use handles::arc::Arc;
 use std::alloc::AllocError;
@@ -61,12 +61,6 @@ impl<T> Links<T> {
             first: None,
             len: 0,
         }
-    }
-
-    pub(crate) fn len(&self) -> usize
-        ensures { result ≡ length self.now }
-    {
-        self.len
     }
 
     pub(crate) fn split_first(&self) -> Option<(&T, &Links<T>)>

@@ -76,7 +76,7 @@ impl<T> Stack<T> {
     pub fn len(&self) -> usize
         ensures { result ≡ length self.now }
     {
-        self.links.len()
+        self.links.len
     }
 
     /// Returns `true` if there are no items.

@@ -63,14 +63,16 @@ impl<'a, T> Iterator for StackIter<'a, T> {
         ensures upper { IfSome result.1 (UpTo (item_count (λ s. s) self.now)) }
         ensures exact { result ≡ (length self.now, Some (length self.now)) }
     {
-        let left = self.links.len();
+        let links = self.links;
+        let left = links.len;
         (left, Some(left))
     }
 }
 
 impl<'a, T> ExactSizeIterator for StackIter<'a, T> {
     fn len(&self) -> usize {
-        self.links.len()
+        let links = self.links;
+        links.len
     }
 }
 

@@ -1,6 +1,6 @@
 //! The differences between two maps.
 ghost use Rattle.std.specs.Prelude.{◌≡◌, ◌++◌, IfOk, OnOk, cond, drop, option_map, option_to_list};
-ghost use Rattle.maps.specs.Differences.{as_entry, change_of, difference, first_change, listed};
+ghost use Rattle.maps.specs.Differences.{as_entry, difference, first_change, listed};
 ghost use Rattle.maps.specs.Maps.{IsRising, lookup};
 
 use crate::entries::Entries;
@@ -111,28 +111,18 @@ impl<'a, K: Ord, V: PartialEq> Remaining<'a, K, V> {
                 let added = (key, DiffItem::Added(value));
                 Some((Ordering::Greater, Some(added)))
             }
-            (Some(old), Some(new)) => Some(change_of(old, new)),
+            (Some(old), Some(new)) => {
+                let order = old.0.cmp(&new.0);
+                let change = match order {
+                    Ordering::Less => Some((&old.0, DiffItem::Removed(&old.1))),
+                    Ordering::Equal if old.1 == new.1 => None,
+                    Ordering::Equal => Some((&old.0, DiffItem::Changed(&old.1, &new.1))),
+                    Ordering::Greater => Some((&new.0, DiffItem::Added(&new.1))),
+                };
+                Some((order, change))
+            }
         }
     }
-}
-
-// Compares the keys of an older and a newer entry, and returns their order with the difference under the lesser key.
-#[inline(always)]
-fn change_of<'a, K: Ord, V: PartialEq>(
-    old: &'a (K, V),
-    new: &'a (K, V),
-) -> (Ordering, Option<(&'a K, DiffItem<'a, V>)>)
-    ensures order { result.0 ≡ K.cmp old.now.0 new.now.0 }
-    ensures change { option_map as_entry result.1 ≡ change_of V.eq result.0 old.now new.now }
-{
-    let order = old.0.cmp(&new.0);
-    let change = match order {
-        Ordering::Less => Some((&old.0, DiffItem::Removed(&old.1))),
-        Ordering::Equal if old.1 == new.1 => None,
-        Ordering::Equal => Some((&old.0, DiffItem::Changed(&old.1, &new.1))),
-        Ordering::Greater => Some((&new.0, DiffItem::Added(&new.1))),
-    };
-    (order, change)
 }
 
 // Appends the item if there is one: equal values give no difference.

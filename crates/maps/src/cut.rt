@@ -7,13 +7,13 @@ use crate::query::Query;
 use sequence::{Cut, Seek};
 
 /// The entries whose keys are at or below the query are before this cut.
-#[derive(Clone, Copy)]
+#[derive(Drop)]
 pub(crate) struct UpTo<Q> {
     pub(crate) query: Q,
 }
 
 /// The entries whose keys are below the query are before this cut.
-#[derive(Clone, Copy)]
+#[derive(Drop)]
 pub(crate) struct Below<Q> {
     pub(crate) query: Q,
 }

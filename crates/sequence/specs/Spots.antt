@@ -1,5 +1,5 @@
 -- An index among the items under the children of a branch: the child, and the index within the child.
-use Rattle.std.specs.Prelude.{◌≡◌, ℕ, ◌+◌, ◌-◌, ◌^◌, ◌<◌, ◌≤◌, List, ◌++◌, cond, length, nat_le, take, drop}
+use Rattle.std.specs.Prelude.{◌≡◌, ℕ, ◌+◌, ◌-◌, ◌<◌, ◌≤◌, List, ◌++◌, cond, length, nat_le, take, drop}
 use Rattle.std.specs.Prelude.{slice_index_or}
 use Rattle.sequence.specs.declared.tree.Child.{Child}
 use Rattle.sequence.specs.declared.tree.ends.End.{End}

@@ -132,8 +132,8 @@ fn beside<T: Clone, L: NewLabel<T>>(
     requires room { length (items_in children.old.items) + length child.tree.0 < 2 ^ 64 }
     ensures { MatchResult result
         (λ _. (items_in children.new.items ≡ spliced place 0 child.tree.0 (items_in children.old.items))
-            × ((height_in children.new.items ≡ height_in children.old.items)
-            × AreChildren L.label_of children.new.items))
+        × ((height_in children.new.items ≡ height_in children.old.items)
+        × AreChildren L.label_of children.new.items))
         (λ back. (children.new.items ≡ children.old.items) × (back ≡ Some child)) }
 {
     if place == 0 {

@@ -1,5 +1,5 @@
 -- The child around the place is two, and each part of the branch has enough items.
-use Rattle.std.proofs.Common.{◌≡◌, ◌+◌, ◌-◌, ◌≤◌, ◌/◌, ◌∙◌, ◌^◌, ◌<◌, ℕ, ap, arith, get_or, length, refl, set, subst}
+use Rattle.std.proofs.Common.{◌≡◌, ◌+◌, ◌-◌, ◌≤◌, ◌∙◌, ◌^◌, ◌<◌, ℕ, ap, arith, get_or, length, refl, set, subst}
 use Rattle.std.proofs.Common.{sym, take}
 use Rattle.std.proofs.lemmas.Nat.{pow_pos}
 use Rattle.std.proofs.lemmas.Result.{MatchResult-from_err}

@@ -52,8 +52,8 @@ returns-in-Some-last_in-clause-item g c =
     let holds = subst (λ node. Holds test (seen node).0 c.down.start c.args.self.now) c.in-Leaf.is
     c.down.invariant.holds in
     let some = rw c.deref.ensures.value at c.in-Some-last_in.ensures.some in
-    last_item test c.in-Leaf.items.items c.args.self.now c.down.start c.requires holds c.in-Some-last_in.at _ some.within
-    c.index.ensures
+    last_item test c.in-Leaf.items.items c.args.self.now c.down.start c.requires holds c.in-Some-last_in.at _
+    some.within c.index.ensures
 
 pub child_of-at-requires-clause-cut : goal.child_of-at-requires-clause-cut
 child_of-at-requires-clause-cut g c =

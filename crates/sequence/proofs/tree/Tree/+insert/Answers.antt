@@ -1,9 +1,9 @@
 -- The branch takes the piece in under one child.
-use Rattle.std.proofs.Common.{◌≡◌, ◌+◌, ◌<◌, ◌≤◌, ◌^◌, ◌⊎◌, ◌∙◌, ℕ, ap, length, refl, set, subst, sym}
-use Rattle.std.specs.Prelude.{Err, IfErr, Ok, OnOk, Result, is_ok}
+use Rattle.std.proofs.Common.{◌≡◌, ◌+◌, ◌<◌, ◌≤◌, ◌^◌, ◌∙◌, ℕ, ap, length, refl, set, subst, sym}
+use Rattle.std.specs.Prelude.{Err, Ok, Result, is_ok}
 use Rattle.sequence.specs.declared.tree.Node.{Node}
 use Rattle.sequence.specs.declared.tree.Node.TheVariants.{Branch, Leaf}
-use Rattle.sequence.specs.Nodes.{AreChildren, IsChild, IsNode, height_in, items_in, seen}
+use Rattle.sequence.specs.Nodes.{AreChildren, IsNode, items_in, seen}
 use Rattle.sequence.specs.Pieces.{Fits, IsPart, items_of, part_of}
 use Rattle.sequence.specs.Spots.{Leads, spliced}
 use Rattle.sequence.proofs.Calls.{kept_at}

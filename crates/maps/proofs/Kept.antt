@@ -57,7 +57,7 @@ module _ {P Q X : Type 0} (R : P → X → Bool → P → Type 0) (S : Q → X �
 module _ {P F K V : Type 0} (h : Mut P (Bor (K × V) × Unit {0}) Bool) (g : Mut F (Bor K × (Bor V × Unit {0})) Bool)
     (of : P → F)
     (asks : (p : P) (a : Bor (K × V) × Unit {0}) (b : Bool) (q : P) → Called h p a b q
-        → AskedOf g (of p) a.0.now b (of q)) where
+    → AskedOf g (of p) a.0.now b (of q)) where
   pub callable_asking : (p : P) → ((q : P) (a : Bor (K × V) × Unit {0}) → always_mut g (of q) → h.pre q a)
       → always_mut g (of p) → always_mut h p
   callable_asking p may =

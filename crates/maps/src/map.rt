@@ -83,23 +83,6 @@ impl<K: Ord, V> TreeMap<K, V> {
             entries: Sequence { root: None, len: 0 },
         }
     }
-
-    // As `deref`, for a proof by hand.
-    fn as_entries(&self) -> &Entries<K, V>
-        ensures { result.now ≡ self.now }
-    {
-        unsafe { &*(self as *const TreeMap<K, V> as *const Entries<K, V>) }
-    }
-
-    ghost use Rattle.maps.specs.Laid.Lending.{LendsMap};
-
-    // As `deref_mut`, for a proof by hand.
-    fn as_mut_entries(&mut self) -> &mut Entries<K, V>
-        ensures* writes_back { sem 𝓛 (LendsMap K.row V.row K.cmp K.eq K.partial_cmp self.entry result) }
-        ensures value { result.now ≡ self.old }
-    {
-        unsafe { &mut *(self as *mut TreeMap<K, V> as *mut Entries<K, V>) }
-    }
 }
 
 impl<K: Ord + Drop, V: Drop> TreeMap<K, V> {
@@ -107,7 +90,7 @@ impl<K: Ord + Drop, V: Drop> TreeMap<K, V> {
         ensures { result ≡ entries }
     {
         let mut map = TreeMap::new();
-        *map.as_mut_entries() = entries;
+        *map.deref_mut() = entries;
         map
     }
 }
@@ -121,7 +104,7 @@ impl<K: Ord, V> Deref for TreeMap<K, V> {
     fn deref(&self) -> &Entries<K, V>
         ensures { result.now ≡ self.now }
     {
-        self.as_entries()
+        unsafe { &*(self as *const TreeMap<K, V> as *const Entries<K, V>) }
     }
 }
 
@@ -134,13 +117,13 @@ impl<K: Ord, V> DerefMut for TreeMap<K, V> {
         ensures* writes_back { sem 𝓛 (LendsMap K.row V.row K.cmp K.eq K.partial_cmp self.entry result) }
         ensures value { result.now ≡ self.old }
     {
-        self.as_mut_entries()
+        unsafe { &mut *(self as *mut TreeMap<K, V> as *mut Entries<K, V>) }
     }
 }
 
 impl<K: Ord + Drop, V: Drop> Drop for TreeMap<K, V> {
     fn drop(mut self) {
-        drop(mem::replace(self.as_mut_entries(), Entries::new()));
+        drop(mem::replace(self.deref_mut(), Entries::new()));
         // They own no entries now.
         let TreeMap { entries: _ } = self;
     }
@@ -157,7 +140,7 @@ impl<K: Ord + Drop, V: Drop> Clone for TreeMap<K, V> {
     ghost is_clone = { λ a b. b ≡ a };
 
     fn clone(&self) -> Result<TreeMap<K, V>, AllocError> {
-        Ok(TreeMap::of(self.as_entries().version()?))
+        Ok(TreeMap::of(self.version()?))
     }
 }
 

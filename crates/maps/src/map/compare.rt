@@ -12,6 +12,7 @@ use std::cmp::Ordering;
 use std::fmt;
 use std::fmt::{Debug, Formatter, Write};
 use std::hash::{Hash, Hasher};
+use std::ops::Deref;
 
 /// Compares the entries, even if both maps share their nodes. O(n).
 impl<K: Ord, V: PartialEq> PartialEq for TreeMap<K, V> {
@@ -20,7 +21,7 @@ impl<K: Ord, V: PartialEq> PartialEq for TreeMap<K, V> {
     ghost laws = { lists_per (and_per (on_per (λ e. e.0) K.PartialEq.laws) (on_per (λ e. e.1) V.laws)) };
 
     fn eq(&self, other: &TreeMap<K, V>) -> bool {
-        self.as_entries().entries == other.as_entries().entries
+        self.deref().entries == other.deref().entries
     }
 }
 
@@ -37,9 +38,7 @@ impl<K: Ord, V: PartialOrd> PartialOrd for TreeMap<K, V> {
     ghost laws = { lists_po (then_po (on_po (λ e. e.0) K.PartialOrd.laws) (on_po (λ e. e.1) V.PartialOrd.laws)) };
 
     fn partial_cmp(&self, other: &TreeMap<K, V>) -> Option<Ordering> {
-        self.as_entries()
-            .entries
-            .partial_cmp(&other.as_entries().entries)
+        self.deref().entries.partial_cmp(&other.deref().entries)
     }
 }
 
@@ -57,7 +56,7 @@ impl<K: Ord, V: Ord> Ord for TreeMap<K, V> {
         (K.matches_eq e.0 f.0) (V.matches_eq e.1 f.1)) };
 
     fn cmp(&self, other: &TreeMap<K, V>) -> Ordering {
-        self.as_entries().entries.cmp(&other.as_entries().entries)
+        self.deref().entries.cmp(&other.deref().entries)
     }
 }
 
@@ -69,7 +68,7 @@ impl<K: Ord + Hash, V: Hash> Hash for TreeMap<K, V> {
         (on_Alike (λ e. e.1) (record { fed = V.respects_eq })))).fed };
 
     fn hash<H: Hasher>(&self, state: &mut H) {
-        self.as_entries().entries.hash(state);
+        self.deref().entries.hash(state);
     }
 }
 

@@ -12,6 +12,7 @@ use crate::entries::iter::Iter;
 use crate::query::Query;
 use sequence::LabelledSequence;
 use std::alloc::{AllocError, Global};
+use std::ops::{Deref, DerefMut};
 
 impl<K: Ord, V> TreeMap<K, V> {
     /// Returns `true` if both maps have the same root node: `TreeMap::ptr_eq(&map, &other)`. The answer is as exact as
@@ -19,7 +20,7 @@ impl<K: Ord, V> TreeMap<K, V> {
     pub fn ptr_eq(this: &TreeMap<K, V>, other: &TreeMap<K, V>) -> bool
         ensures { IsTrue result → (0 < length this.now) × (0 < length other.now) }
     {
-        LabelledSequence::ptr_eq(&this.as_entries().entries, &other.as_entries().entries)
+        LabelledSequence::ptr_eq(&this.deref().entries, &other.deref().entries)
     }
 }
 
@@ -66,7 +67,7 @@ impl<K: Ord + Clone, V: Clone> TreeMap<K, V> {
         ensures rest { OnOk result (self.new ≡ take (rank_by (Q.order key) self.old) self.old) }
         ensures refused { OnErr result (self.new ≡ self.old) }
     {
-        let entries = self.as_mut_entries();
+        let entries = self.deref_mut();
         let at = entries.rank(key);
         match entries.entries.split_off(alloc, at) {
             Ok(entries) => Ok(TreeMap::of(Entries { entries })),
@@ -142,6 +143,6 @@ impl<'a, K: Ord, V> IntoIterator for &'a TreeMap<K, V> {
         × ShowsValuesInOrder (deref {X = K × V}) };
 
     fn into_iter(self) -> Iter<'a, K, V> {
-        self.as_entries().iter()
+        self.iter()
     }
 }

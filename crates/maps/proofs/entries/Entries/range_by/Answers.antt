@@ -16,17 +16,17 @@ returns-clause-entries g c =
     let before = λ (bound : Bound g.row.Q.Denot). before_start (bound_map order bound) es in
     let up_to = λ (bound : Bound g.row.Q.Denot). up_to_end (bound_map order bound) es in
     let from : c.match-start.from ≡ before_start (bound_map order c.args.start) es =
-        elim c.match-start.branch [
-          | in-Included w ↦ w.from-is ∙ w.rank-from.ensures.rank ∙ sym (ap before w.in-Included.is)
-          | in-Excluded w ↦ w.from-is ∙ w.rank_with-from.ensures.rank ∙ sym (ap before w.in-Excluded.is)
-          | in-Unbounded w ↦ w.from-is ∙ sym (ap before w.in-Unbounded.is)
-        ] in
+    elim c.match-start.branch [
+      | in-Included w ↦ w.from-is ∙ w.rank-from.ensures.rank ∙ sym (ap before w.in-Included.is)
+      | in-Excluded w ↦ w.from-is ∙ w.rank_with-from.ensures.rank ∙ sym (ap before w.in-Excluded.is)
+      | in-Unbounded w ↦ w.from-is ∙ sym (ap before w.in-Unbounded.is)
+    ] in
     let to : c.match-end.to ≡ up_to_end (bound_map order c.args.end) es =
-        elim c.match-end.branch [
-          | in-Included-end w ↦ w.to-is ∙ w.rank_with-to.ensures.rank ∙ sym (ap up_to w.in-Included-end.is)
-          | in-Excluded-end w ↦ w.to-is ∙ w.rank-to.ensures.rank ∙ sym (ap up_to w.in-Excluded-end.is)
-          | in-Unbounded-end w ↦ w.to-is ∙ w.len-to.ensures.count ∙ sym (ap up_to w.in-Unbounded-end.is)
-        ] in
+    elim c.match-end.branch [
+      | in-Included-end w ↦ w.to-is ∙ w.rank_with-to.ensures.rank ∙ sym (ap up_to w.in-Included-end.is)
+      | in-Excluded-end w ↦ w.to-is ∙ w.rank-to.ensures.rank ∙ sym (ap up_to w.in-Excluded-end.is)
+      | in-Unbounded-end w ↦ w.to-is ∙ w.len-to.ensures.count ∙ sym (ap up_to w.in-Unbounded-end.is)
+    ] in
     c.range.ensures.items tt ∙ ap (λ es. slice_range es c.match-start.from c.match-end.to) c.self.view_is
     ∙ ap₂ (slice_range es) from to
 

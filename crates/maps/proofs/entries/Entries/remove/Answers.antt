@@ -53,10 +53,10 @@ returns-clause-value g c =
     let at = (goal.at.returns-clause-value g c).In_ok-take_out in
     let value = option_map (λ (e : g.row.K.Denot × g.row.V.Denot). e.1) in
     let read : c.match-branch-2.value ≡ value c.in_ok-take_out.field-0 =
-        elim c.match-branch-2.branch [
-          | in-None w ↦ w.value-is ∙ sym (ap value w.in-None.is)
-          | in-Some w ↦ w.value-is ∙ sym (ap value w.in-Some.is)
-        ] in
+    elim c.match-branch-2.branch [
+      | in-None w ↦ w.value-is ∙ sym (ap value w.in-None.is)
+      | in-Some w ↦ w.value-is ∙ sym (ap value w.in-Some.is)
+    ] in
     read ∙ (done g at).0 ∙ ap (lookup_by (g.Q.Query.order c.args.key)) c.self.view_is
 
 pub returns-clause-entries : goal.returns-clause-entries

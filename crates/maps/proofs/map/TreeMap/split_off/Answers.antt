@@ -22,10 +22,10 @@ pub returns-in-Ok-clause-out : goal.returns-in-Ok-clause-out
 returns-in-Ok-clause-out g c =
     c.of.ensures ∙ c.in-Ok.ensures.out
     ∙ ap₂ (λ n es. drop n es) c.rank-at.ensures.rank c.entries.view_is
-    ∙ ap (λ es. drop (rank_by (g.Q.Query.order c.args.key) es) es) c.as_mut_entries-entries.ensures.value
+    ∙ ap (λ es. drop (rank_by (g.Q.Query.order c.args.key) es) es) c.deref_mut-entries.ensures.value
 
 pub returns-in-Ok-clause-rest : goal.returns-in-Ok-clause-rest
 returns-in-Ok-clause-rest g c =
     c.in-Ok.ensures.rest
     ∙ ap₂ (λ n es. take n es) c.rank-at.ensures.rank c.entries.view_is
-    ∙ ap (λ es. take (rank_by (g.Q.Query.order c.args.key) es) es) c.as_mut_entries-entries.ensures.value
+    ∙ ap (λ es. take (rank_by (g.Q.Query.order c.args.key) es) es) c.deref_mut-entries.ensures.value

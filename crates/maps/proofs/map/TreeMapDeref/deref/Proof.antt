@@ -1,4 +1,4 @@
--- `as_entries` shows the map.
+-- `deref` shows the map.
 use Rattle.handles.proofs.Walks.{so, ℕ, List, [], ◌∷◌, refl, named, vptr, Val, id⊢, Lft, ‵, raw, ◌⊛◌, ◌$◌, !, by}
 use Rattle.handles.proofs.Walks.{move, keep, split, join, fsplit, fjoin, use1, feq_i, stop, addr, of_opd, first}
 use Rattle.handles.proofs.Walks.{blocks, returns, alloc_all, pass_all, free_all, look_at, get, through, sets, sets_last}
@@ -7,13 +7,13 @@ use Rattle.handles.proofs.Walks.AtType.{dropped}
 use Rattle.handles.proofs.Walks.OneParam.{a_ref}
 use contract.Lifetimes.{toks}
 use Rattle.maps.proofs.Laid.{Self as self_row, MapRow, at_entry}
-use Rattle.maps.specs.contracts.map.TreeMap.as_entries.{ended, clauses}
-use Rattle.maps.specs.contracts.map.TreeMap.as_entries.Key.{name as #self}
-use Rattle.maps.proofs.map.TreeMap.as_entries.Statement.{statement}
-use Rattle.maps.proofs.map.TreeMap.as_entries.Code as code
+use Rattle.maps.specs.contracts.map.TreeMapDeref.deref.{ended, clauses}
+use Rattle.maps.specs.contracts.map.TreeMapDeref.deref.Key.{name as #self}
+use Rattle.maps.proofs.map.TreeMapDeref.deref.Statement.{statement}
+use Rattle.maps.proofs.map.TreeMapDeref.deref.Code as code
 
-pub as_entries_spec : {M : Type 1} → statement M
-as_entries_spec 𝓤 𝓛 𝓜 𝓡 wired X Y LX LY g₀ d₀ g₁ d₁ g₂ d₂ g₃ d₃ m₀ m₁ m₂ m₃ =
+pub deref_spec : {M : Type 1} → statement M
+deref_spec 𝓤 𝓛 𝓜 𝓡 wired X Y LX LY g₀ d₀ g₁ d₁ g₂ d₂ g₃ d₃ m₀ m₁ m₂ m₃ =
     let K : RattleType = param 0 X in let V : RattleType = param 1 Y in
     let Self : RattleType = self_row K V g₀ g₂ g₃ in
     dropped (at_entry X Y d₀ d₁ d₂ d₃) code.function 𝓛 𝓜 𝓡 (ended X Y g₀ d₀ g₁ d₁ g₂ d₂ g₃ d₃)

@@ -1,4 +1,4 @@
--- `as_mut_entries` lends the map.
+-- `deref_mut` lends the map.
 use Rattle.handles.proofs.Walks.{walks, ◌≡◌, ℕ, [], ◌∷◌, refl, named, vptr, Lft, Share, ftrue, flft, sem, ‵, raw, ◌⊛◌}
 use Rattle.handles.proofs.Walks.{some, later, ◌$◌, ◌∵◌, !, qed, by, move, keep, drop, split, split3, join, fsplit}
 use Rattle.handles.proofs.Walks.{fsplit3, fjoin, pick, use1, use2, await, stop, addr, of_opd, first, blocks, returns}
@@ -10,13 +10,13 @@ use denote.Param.Laws.{param_laws}
 use denote.Signature.{mut_ref_to}
 use denote.Follow.{follows, lends_Part}
 use Rattle.maps.proofs.Laid.{Self as self_row, MapRow, at_entry, forth, back}
-use Rattle.maps.specs.contracts.map.TreeMap.as_mut_entries.{ended, clauses}
-use Rattle.maps.specs.contracts.map.TreeMap.as_mut_entries.Key.{name as #self}
-use Rattle.maps.proofs.map.TreeMap.as_mut_entries.Statement.{statement}
-use Rattle.maps.proofs.map.TreeMap.as_mut_entries.Code as code
+use Rattle.maps.specs.contracts.map.TreeMapDerefMut.deref_mut.{ended, clauses}
+use Rattle.maps.specs.contracts.map.TreeMapDerefMut.deref_mut.Key.{name as #self}
+use Rattle.maps.proofs.map.TreeMapDerefMut.deref_mut.Statement.{statement}
+use Rattle.maps.proofs.map.TreeMapDerefMut.deref_mut.Code as code
 
-pub as_mut_entries_spec : {M : Type 1} → statement M
-as_mut_entries_spec 𝓤 𝓛 𝓜 𝓡 wired X Y LX LY g₀ d₀ g₁ d₁ g₂ d₂ g₃ d₃ m₀ m₁ m₂ m₃ =
+pub deref_mut_spec : {M : Type 1} → statement M
+deref_mut_spec 𝓤 𝓛 𝓜 𝓡 wired X Y LX LY g₀ d₀ g₁ d₁ g₂ d₂ g₃ d₃ m₀ m₁ m₂ m₃ =
     let K : RattleType = param 0 X in let V : RattleType = param 1 Y in
     let LK = param_laws 0 X LX in let LV = param_laws 1 Y LY in
     let En = ended X Y g₀ d₀ g₁ d₁ g₂ d₂ g₃ d₃ in

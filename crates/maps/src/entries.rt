@@ -17,7 +17,6 @@ mod alter;
 pub(crate) mod diff;
 mod empty;
 pub(crate) mod fields;
-pub(crate) mod from_items;
 mod index;
 pub(crate) mod iter;
 mod keep;
@@ -25,6 +24,7 @@ mod merge;
 mod near;
 mod pop;
 mod range;
+pub(crate) mod rising;
 
 use crate::cut::{Below, UpTo};
 use crate::entry::Entry;

@@ -7,7 +7,7 @@ ghost use Rattle.maps.specs.Maps.{lookup, rank_by, with_entries};
 
 use super::TreeMap;
 use crate::entries::Entries;
-use crate::entries::from_items::rises;
+use crate::entries::rising::rises;
 use crate::entries::iter::Iter;
 use crate::query::Query;
 use sequence::LabelledSequence;

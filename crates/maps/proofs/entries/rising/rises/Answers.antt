@@ -2,7 +2,7 @@ use Rattle.std.proofs.Common.{◌≡◌, ◌+◌, suc, true, arith, get_or, rule
 use Rattle.std.proofs.lemmas.List.Sorted.{answers_always}
 use Rattle.std.specs.Ordering.{is_lt}
 use Rattle.maps.proofs.Rising.{rising_each}
-use Rattle.maps.proofs.entries.from_items.rises.Goals as goal
+use Rattle.maps.proofs.entries.rising.rises.Goals as goal
 
 pub returns : goal.returns
 returns g c =

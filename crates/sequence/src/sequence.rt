@@ -77,23 +77,6 @@ impl<T> Sequence<T> {
     {
         Sequence { root: None, len: 0 }
     }
-
-    // As `deref`, for a proof by hand.
-    fn as_labelled(&self) -> &LabelledSequence<T>
-        ensures { result.now ≡ self.now }
-    {
-        unsafe { &*(self as *const Sequence<T> as *const LabelledSequence<T>) }
-    }
-
-    ghost use Rattle.sequence.specs.Laid.Lending.{LendsList};
-
-    // As `deref_mut`, for a proof by hand.
-    fn as_mut_labelled(&mut self) -> &mut LabelledSequence<T>
-        ensures* writes_back { sem 𝓛 (LendsList T.row self.entry result) }
-        ensures value { result.now ≡ self.old }
-    {
-        unsafe { &mut *(self as *mut Sequence<T> as *mut LabelledSequence<T>) }
-    }
 }
 
 impl<T: Drop> Sequence<T> {
@@ -101,14 +84,14 @@ impl<T: Drop> Sequence<T> {
         ensures { result ≡ list }
     {
         let mut sequence = Sequence::new();
-        *sequence.as_mut_labelled() = list;
+        *sequence.deref_mut() = list;
         sequence
     }
 
     fn into_labelled(mut self) -> LabelledSequence<T>
         ensures { result ≡ self }
     {
-        mem::replace(self.as_mut_labelled(), LabelledSequence::empty())
+        mem::replace(self.deref_mut(), LabelledSequence::empty())
     }
 }
 
@@ -121,7 +104,7 @@ impl<T> Deref for Sequence<T> {
     fn deref(&self) -> &LabelledSequence<T>
         ensures { result.now ≡ self.now }
     {
-        self.as_labelled()
+        unsafe { &*(self as *const Sequence<T> as *const LabelledSequence<T>) }
     }
 }
 
@@ -134,13 +117,13 @@ impl<T> DerefMut for Sequence<T> {
         ensures* writes_back { sem 𝓛 (LendsList T.row self.entry result) }
         ensures value { result.now ≡ self.old }
     {
-        self.as_mut_labelled()
+        unsafe { &mut *(self as *mut Sequence<T> as *mut LabelledSequence<T>) }
     }
 }
 
 impl<T: Drop> Drop for Sequence<T> {
     fn drop(mut self) {
-        drop(mem::replace(self.as_mut_labelled(), LabelledSequence::empty()));
+        drop(mem::replace(self.deref_mut(), LabelledSequence::empty()));
         // They own no list now.
         let Sequence { root: _, len: _ } = self;
     }
@@ -157,7 +140,7 @@ impl<T: Drop> Clone for Sequence<T> {
     ghost is_clone = { λ a b. b ≡ a };
 
     fn clone(&self) -> Result<Sequence<T>, AllocError> {
-        Ok(Sequence::of(self.as_labelled().clone()?))
+        Ok(Sequence::of(self.deref().clone()?))
     }
 }
 

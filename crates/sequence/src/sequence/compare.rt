@@ -8,6 +8,7 @@ use std::cmp::Ordering;
 use std::fmt;
 use std::fmt::{Debug, Formatter, Write};
 use std::hash::{Hash, Hasher};
+use std::ops::Deref;
 
 impl<T: PartialEq> PartialEq for Sequence<T> {
     ghost eq = { pointwise T.eq };
@@ -15,7 +16,7 @@ impl<T: PartialEq> PartialEq for Sequence<T> {
     ghost laws = { lists_per T.laws };
 
     fn eq(&self, other: &Sequence<T>) -> bool {
-        self.as_labelled() == other.as_labelled()
+        self.deref() == other.deref()
     }
 }
 
@@ -29,7 +30,7 @@ impl<T: PartialOrd> PartialOrd for Sequence<T> {
     ghost laws = { lists_po T.PartialOrd.laws };
 
     fn partial_cmp(&self, other: &Sequence<T>) -> Option<Ordering> {
-        self.as_labelled().partial_cmp(other.as_labelled())
+        self.deref().partial_cmp(other.deref())
     }
 }
 
@@ -43,7 +44,7 @@ impl<T: Ord> Ord for Sequence<T> {
     ghost matches_eq = { lists_ties T.cmp T.matches_eq };
 
     fn cmp(&self, other: &Sequence<T>) -> Ordering {
-        self.as_labelled().cmp(other.as_labelled())
+        self.deref().cmp(other.deref())
     }
 }
 
@@ -53,12 +54,12 @@ impl<T: Hash> Hash for Sequence<T> {
     ghost respects_eq = { (items_Alike (record { fed = T.respects_eq })).fed };
 
     fn hash<H: Hasher>(&self, state: &mut H) {
-        self.as_labelled().hash(state)
+        self.deref().hash(state)
     }
 }
 
 impl<T: Debug> Debug for Sequence<T> {
     fn fmt<W: Write>(&self, f: &mut Formatter<W>) -> fmt::Result {
-        self.as_labelled().fmt(f)
+        self.deref().fmt(f)
     }
 }

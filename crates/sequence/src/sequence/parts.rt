@@ -8,7 +8,7 @@ use crate::iter::Iter;
 use crate::labelled::LabelledSequence;
 use handles::place::PlaceError;
 use std::alloc::{AllocError, Global};
-use std::ops::Range;
+use std::ops::{DerefMut, Range};
 
 impl<T> Sequence<T> {
     /// Returns `true` if both lists have the same root node: `Sequence::ptr_eq(&list, &other)`. The answer is as exact
@@ -48,7 +48,7 @@ impl<T: Clone> Sequence<T> {
         ensures items { OnOk result (self.new ≡ self.old ++ other) }
         ensures refused { OnErr result (self.new ≡ self.old) }
     {
-        self.as_mut_labelled().append(alloc, other.into_labelled())
+        self.deref_mut().append(alloc, other.into_labelled())
     }
 
     /// Splits the list at `at` and returns the items from `at` on: `let rest = list.split_off(alloc, at)?;`. O(log n).
@@ -68,7 +68,7 @@ impl<T: Clone> Sequence<T> {
         ensures rest { OnOk result (self.new ≡ take at self.old) }
         ensures refused { OnErr result (self.new ≡ self.old) }
     {
-        let rest = self.as_mut_labelled().split_off(alloc, at)?;
+        let rest = self.deref_mut().split_off(alloc, at)?;
         Ok(Sequence::of(rest))
     }
 
@@ -93,7 +93,7 @@ impl<T: Clone> Sequence<T> {
             ↔ ((length self.old < numbers.end) ⊎ (numbers.end < numbers.start)) }
         ensures refused { OnErr result (self.new ≡ self.old) }
     {
-        let list = self.as_mut_labelled();
+        let list = self.deref_mut();
         let old = list.replace(alloc, numbers, other.into_labelled())?;
         Ok(Sequence::of(old))
     }
@@ -107,6 +107,6 @@ impl<'a, T> IntoIterator for &'a Sequence<T> {
     ghost into_iter_gives = { λ list r. (r ≡ list.now) × ShowsInOrder (deref {X = T}) };
 
     fn into_iter(self) -> Iter<'a, T> {
-        self.as_labelled().iter()
+        self.iter()
     }
 }

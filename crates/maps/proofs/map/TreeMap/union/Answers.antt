@@ -1,4 +1,4 @@
-use Rattle.std.proofs.Common.{◌∙◌, ap, ap₂}
+use Rattle.std.proofs.Common.{◌∙◌, ap₂}
 use Rattle.maps.specs.Maps.{with_entries}
 use Rattle.maps.proofs.map.TreeMap.union.Goals as goal
 

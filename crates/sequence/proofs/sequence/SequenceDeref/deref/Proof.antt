@@ -1,4 +1,4 @@
--- `as_labelled` shows the list.
+-- `deref` shows the list.
 use Rattle.handles.proofs.Walks.{by_ref, so, ℕ, List, [], ◌∷◌, refl, Val, vptr, id⊢, Lft, ‵, ◌$◌, !, by, keep, fjoin}
 use Rattle.handles.proofs.Walks.{use1, feq_i}
 use Rattle.handles.proofs.Walks.{stop, addr, of_opd, first, blocks, returns, alloc_all, pass_all, free_all, look_at}
@@ -6,13 +6,13 @@ use Rattle.handles.proofs.Walks.{get}
 use Rattle.handles.proofs.Walks.{through, sets, sets_last, RattleType, param, fact_i, hidden_shr}
 use Rattle.sequence.specs.Laid.Owned.{list_row}
 use Rattle.sequence.specs.contracts.sequence.Sequence.{the_row}
-use Rattle.sequence.specs.contracts.sequence.Sequence.as_labelled.{clauses}
-use Rattle.sequence.specs.contracts.sequence.Sequence.as_labelled.Key.{name as #self}
-use Rattle.sequence.proofs.sequence.Sequence.as_labelled.Statement.{statement}
-use Rattle.sequence.proofs.sequence.Sequence.as_labelled.Code as code
+use Rattle.sequence.specs.contracts.sequence.SequenceDeref.deref.{clauses}
+use Rattle.sequence.specs.contracts.sequence.SequenceDeref.deref.Key.{name as #self}
+use Rattle.sequence.proofs.sequence.SequenceDeref.deref.Statement.{statement}
+use Rattle.sequence.proofs.sequence.SequenceDeref.deref.Code as code
 
-pub as_labelled_spec : {M : Type 1} → statement M
-as_labelled_spec 𝓤 𝓛 𝓜 𝓡 wired T L =
+pub deref_spec : {M : Type 1} → statement M
+deref_spec 𝓤 𝓛 𝓜 𝓡 wired T L =
     let R : RattleType = param 0 T in
     by_ref (the_row R) tt 𝓛 𝓜 𝓡 (clauses T 𝓛 𝓜.mem 𝓡.returns) (λ κs a. Unit {0}) (λ κs a gh. fact_i 𝓤 _ _ tt) T #self
     code.function (code.unfolded 𝓤 𝓛.H 𝓜 𝓡 wired (T, tt)) (λ κs qs a gh Post asked ends go.

@@ -1,4 +1,4 @@
--- `as_mut_labelled` lends the list.
+-- `deref_mut` lends the list.
 use Rattle.handles.proofs.Walks.{walks, at_type, ◌≡◌, ℕ, [], ◌∷◌, refl, named, vptr, Lft}
 use Rattle.handles.proofs.Walks.{Share, ftrue, flft, sem, ‵, raw, ◌⊛◌, some, later, ◌$◌, ◌∵◌, !, qed, by, move, keep}
 use Rattle.handles.proofs.Walks.{drop}
@@ -11,13 +11,13 @@ use denote.Memory.{mem}
 use denote.Signature.{mut_ref_to}
 use denote.Follow.{follows, lends_Part}
 use Rattle.sequence.proofs.Laid.{Self as self_row, ListRow, forth, back}
-use Rattle.sequence.specs.contracts.sequence.Sequence.as_mut_labelled.{ended, clauses}
-use Rattle.sequence.specs.contracts.sequence.Sequence.as_mut_labelled.Key.{name as #self}
-use Rattle.sequence.proofs.sequence.Sequence.as_mut_labelled.Statement.{statement}
-use Rattle.sequence.proofs.sequence.Sequence.as_mut_labelled.Code as code
+use Rattle.sequence.specs.contracts.sequence.SequenceDerefMut.deref_mut.{ended, clauses}
+use Rattle.sequence.specs.contracts.sequence.SequenceDerefMut.deref_mut.Key.{name as #self}
+use Rattle.sequence.proofs.sequence.SequenceDerefMut.deref_mut.Statement.{statement}
+use Rattle.sequence.proofs.sequence.SequenceDerefMut.deref_mut.Code as code
 
-pub as_mut_labelled_spec : {M : Type 1} → statement M
-as_mut_labelled_spec 𝓤 𝓛 𝓜 𝓡 wired T L =
+pub deref_mut_spec : {M : Type 1} → statement M
+deref_mut_spec 𝓤 𝓛 𝓜 𝓡 wired T L =
     let En = ended T in let c = clauses T 𝓛 𝓜.mem 𝓡.returns in
     let Self : RattleType = self_row T L in let C : RattleType = ListRow T L in let row = plain (λ _. Self) in
     let hs : Stays En.signature.params En.kept = (stay_dropped (mut_ref_to (0 ∷ []) tt row) no, tt) in

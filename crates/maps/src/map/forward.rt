@@ -7,8 +7,8 @@ ghost use Rattle.maps.specs.Maps.{lookup, rank_by, with_entries};
 
 use super::TreeMap;
 use crate::entries::Entries;
-use crate::entries::rising::rises;
 use crate::entries::iter::Iter;
+use crate::entries::rising::rises;
 use crate::query::Query;
 use sequence::LabelledSequence;
 use std::alloc::{AllocError, Global};

@@ -1,12 +1,12 @@
 -- What a tree takes in, on its way down.
 use Rattle.std.proofs.Common.{◌≡◌, ◌∙◌, ◌+◌, ◌<◌, ◌≤◌, ◌^◌, ◌⊎◌, inl, inr, ℕ, List, length, get_or, set, ap, sym}
 use Rattle.std.proofs.Common.{subst, arith, w64, Fits as FitsWidth}
-use Rattle.std.specs.Prelude.{Err, IfErr, IsErrAnd, MatchResult, Ok, OnErr, OnOk, Option, Result, Some}
+use Rattle.std.specs.Prelude.{Err, IsErrAnd, MatchResult, Ok, OnErr, OnOk, Option, Result, Some}
 use Rattle.sequence.specs.declared.tree.Child.{Child}
 use Rattle.sequence.specs.declared.tree.insert.Piece.{Piece}
 use Rattle.sequence.specs.declared.tree.insert.Piece.TheVariants.{Item, Part}
 use Rattle.sequence.specs.declared.tree.search.Spot.{Spot}
-use Rattle.sequence.specs.Nodes.{AreChildren, height_in, items_in}
+use Rattle.sequence.specs.Nodes.{AreChildren, IsList, height_in, items_in}
 use Rattle.sequence.specs.Pieces.{Counts, Fits, GoesOn, IsHere, IsPart, items_of, part_of}
 use Rattle.sequence.specs.Spots.{Leads, spliced}
 use Rattle.sequence.proofs.Nodes.Children.{leads_inner, length-split}
@@ -111,18 +111,27 @@ module _ {T L : Type 0} (label_of : T → L) (piece next : Piece T L) (place : �
       (on_ok r (λ (is : len ≡ d.len + length (items_of piece)). omega (arith, is)) more) kept
 
 module _ {T B : Type 0} (place : ℕ) (more : List T) (part : B) (tree now : List T × ℕ) where
-  -- what the tree has once its first node has these items, unless the call was refused
-  pub put_in : {A : Type 0} (old new : List T) (h k : ℕ) (r : Result A B) → (old, h) ≡ tree → now ≡ (new, k) → k ≡ h
-      → OnOk r (new ≡ spliced place 0 more old) → OnErr r (new ≡ old) → IfErr r (λ back. back ≡ part)
-      → MatchResult r (λ _. now ≡ (spliced place 0 more tree.0, tree.1)) (λ back. (now ≡ tree) × (back ≡ part))
-  put_in old new h k (Ok a) same is level put kept back =
-      is ∙ (λ i. (put i, level i)) ∙ ap (λ (t : List T × ℕ). (spliced place 0 more t.0, t.1)) same
-  put_in old new h k (Err e) same is level put kept back = (is ∙ (λ i. (kept i, level i)) ∙ same, back)
-
+  -- what the tree has if the call was refused
   pub put_back : {A : Type 0} (r : Result A B) (e : B) → now ≡ tree → IsErrAnd r (λ back. back ≡ e) → e ≡ part
       → MatchResult r (λ _. now ≡ (spliced place 0 more tree.0, tree.1)) (λ back. (now ≡ tree) × (back ≡ part))
   put_back (Ok a) e kept refused back = absurd refused
   put_back (Err b) e kept refused back = (kept, refused ∙ back)
+
+module _ {T A B : Type 0} (place : ℕ) (more : List T) (part : B) (es new : List T) where
+  -- the leaf after the call that puts these items into it
+  abbrev pub InLeaf : Result A B → Type 0
+  InLeaf r =
+      MatchResult r (λ _. (new ≡ spliced place 0 more es) × IsList new) (λ back. (new ≡ es) × (back ≡ part))
+
+  pub leaf_is : (r : Result A B) → InLeaf r → IsList es → IsList new
+  leaf_is (Ok a) put list = put.1
+  leaf_is (Err e) left list = subst (λ (es : List T). IsList es) (sym left.0) list
+
+  pub put_in_leaf : (tree now : List T × ℕ) (r : Result A B) → InLeaf r → (es, 0) ≡ tree → now ≡ (new, 0)
+      → MatchResult r (λ _. now ≡ (spliced place 0 more tree.0, tree.1)) (λ back. (now ≡ tree) × (back ≡ part))
+  put_in_leaf tree now (Ok a) put same is =
+      is ∙ ap (λ (es : List T). (es, 0)) put.0 ∙ ap (λ (t : List T × ℕ). (spliced place 0 more t.0, t.1)) same
+  put_in_leaf tree now (Err e) left same is = (is ∙ ap (λ (es : List T). (es, 0)) left.0 ∙ same, left.1)
 
 module _ {T L : Type 0} (label_of : T → L) where
   -- a piece that belongs on this level is a child of it

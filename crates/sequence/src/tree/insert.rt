@@ -1,5 +1,5 @@
 //! How a tree takes an item or a lower tree in: in place, but for the nodes that others share, which are copied.
-ghost use Rattle.std.specs.Prelude.{◌≡◌, ◌+◌, ◌<◌, ◌≤◌, ◌^◌, IfErr, None, OnOk, OnErr, MatchResult, Some};
+ghost use Rattle.std.specs.Prelude.{◌≡◌, ◌+◌, ◌<◌, ◌≤◌, ◌^◌, None, MatchResult, Some};
 ghost use Rattle.std.specs.Prelude.{length, take};
 ghost use Rattle.handles.specs.Copies.{CopiesAreEqual};
 ghost use Rattle.sequence.specs.Nodes.{AreChildren, IsList, StandFor, height_in, items_in};
@@ -105,10 +105,9 @@ fn insert_in_leaf<T: Drop, L: Label<T> + Drop>(
     requires within { place ≤ length items.old.items }
     requires fits { Fits L.label_of piece place (items.old.items, 0) }
     requires room { length items.old.items + length (items_of piece) < 2 ^ 64 }
-    ensures items { OnOk result (items.new.items ≡ spliced place 0 (items_of piece) items.old.items) }
-    ensures list { IsList items.new.items }
-    ensures refused { OnErr result (items.new.items ≡ items.old.items) }
-    ensures back { IfErr result (λ back. back ≡ part_of piece) }
+    ensures { MatchResult result
+        (λ _. (items.new.items ≡ spliced place 0 (items_of piece) items.old.items) × IsList items.new.items)
+        (λ back. (items.new.items ≡ items.old.items) × (back ≡ part_of piece)) }
 {
     let Piece::Item(item) = piece else {
         unreachable!()

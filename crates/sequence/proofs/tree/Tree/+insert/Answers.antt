@@ -10,7 +10,7 @@ use Rattle.sequence.proofs.Calls.{kept_at}
 use Rattle.sequence.proofs.Nodes.Copied.{IsMade, made}
 use Rattle.sequence.proofs.Nodes.Ended.{IsEnded}
 use Rattle.sequence.proofs.Pieces.{IsIn, beside_are, count_in, counts, fits_in, items_here, lower_in, part_here}
-use Rattle.sequence.proofs.Pieces.{put_back, put_beside, put_in, put_under_it, room_in, same_part, within_in}
+use Rattle.sequence.proofs.Pieces.{leaf_is, put_back, put_beside, put_in_leaf, put_under_it, room_in, same_part, within_in}
 use Rattle.sequence.proofs.tree.Tree.+insert.Given as given
 use Rattle.sequence.proofs.tree.Tree.+insert.Goals as goal
 use Rattle.sequence.proofs.tree.Tree.+insert.Goals.{After-insert, After-insert-arg-1, In-Branch, In-Leaf, In-Ok}
@@ -86,16 +86,16 @@ pub invariant_of-self-in-Leaf : goal.invariant_of-self-in-Leaf
 invariant_of-self-in-Leaf g t c =
     let at = goal.at.invariant_of-self-in-Leaf g t c in
     subst (IsNode g.L.Label.label_of) (sym (written g t at.In-Ok (Leaf c.insert_in_leaf.new.items)))
-    c.insert_in_leaf.ensures.list
+    (leaf_is c.args.place (items_of c.args.piece) (part_of c.args.piece) c.in-Leaf.items.items
+    c.insert_in_leaf.new.items.items c.insert_in_leaf.result c.insert_in_leaf.ensures (leaf g t at.In-Leaf).whole)
 
 pub returns-in-Leaf : goal.returns-in-Leaf
 returns-in-Leaf g t c =
-    let leaf = leaf g t (goal.at.returns-in-Leaf g t c).In-Leaf in
-    let did = c.insert_in_leaf.ensures in
-    put_in c.args.place (items_of c.args.piece) (part_of c.args.piece) c.args.self.now _ c.in-Leaf.items.items
-    c.insert_in_leaf.new.items.items 0 0 c.insert_in_leaf.result leaf.same (ap (λ node. seen node)
-    (written g t (goal.at.returns-in-Leaf g t c).In-Ok (Leaf c.insert_in_leaf.new.items))) refl did.items
-    did.refused did.back
+    let at = goal.at.returns-in-Leaf g t c in
+    put_in_leaf c.args.place (items_of c.args.piece) (part_of c.args.piece) c.in-Leaf.items.items
+    c.insert_in_leaf.new.items.items c.args.self.now _ c.insert_in_leaf.result c.insert_in_leaf.ensures
+    (leaf g t at.In-Leaf).same
+    (ap (λ node. seen node) (written g t at.In-Ok (Leaf c.insert_in_leaf.new.items)))
 
 pub index_mut-child-requires : goal.index_mut-child-requires
 index_mut-child-requires g t c =

@@ -1,7 +1,7 @@
 -- The item goes in behind those of the last child.
-use Rattle.std.proofs.Common.{◌≡◌, ◌+◌, ◌-◌, ◌<◌, ◌^◌, ℕ, [], ◌∷◌, ap, arith, length, set}
-use Rattle.std.specs.Prelude.{IsOk, List, MatchResult, is_ok}
-use Rattle.sequence.specs.Nodes.{AreChildren, IsList}
+use Rattle.std.proofs.Common.{◌≡◌, ◌+◌, ◌-◌, ◌<◌, ◌^◌, ℕ, [], ◌∷◌, ap, arith, length, set, subst, sym}
+use Rattle.std.specs.Prelude.{List, MatchResult, is_ok}
+use Rattle.sequence.specs.Nodes.{AreChildren, IsList, IsNode, seen}
 use Rattle.sequence.specs.Spots.{spliced}
 use Rattle.sequence.specs.declared.tree.Node.TheVariants.{Branch}
 use Rattle.sequence.proofs.Calls.{one_more}
@@ -75,13 +75,16 @@ leaf g t c =
 
 pub invariant_of-self-in-Leaf : goal.invariant_of-self-in-Leaf
 invariant_of-self-in-Leaf g t c =
-    let ok : IsOk c.make_mut.result = ap (λ r. is_ok r) c.in-Ok.is in
-    rw c.make_mut.follows.holds ((leaf g t (goal.at.invariant_of-self-in-Leaf g t c).After-push_in_leaf).0)
+    subst (IsNode g.L.Label.label_of) (sym (c.make_mut.follows.holds _ (ap (λ r. is_ok r) c.in-Ok.is)))
+    (leaf g t (goal.at.invariant_of-self-in-Leaf g t c).After-push_in_leaf).0
 
 pub returns-in-Leaf : goal.returns-in-Leaf
 returns-in-Leaf g t c =
-    let ok : IsOk c.make_mut.result = ap (λ r. is_ok r) c.in-Ok.is in
-    rw c.make_mut.follows.holds ((leaf g t (goal.at.returns-in-Leaf g t c).After-push_in_leaf).1)
+    let tree = c.args.self.now in
+    subst (λ node. MatchResult c.push_in_leaf.result
+    (λ _. seen node ≡ (spliced (length tree.0) 0 (c.args.item ∷ []) tree.0, tree.1))
+    (λ back. (seen node ≡ tree) × (back ≡ c.args.item)))
+    (sym (c.make_mut.follows.holds _ (ap (λ r. is_ok r) c.in-Ok.is))) (leaf g t (goal.at.returns-in-Leaf g t c).After-push_in_leaf).1
 
 -- the children then
 done : (g : given.Over) (t : ℕ) (c : After-from g t)
@@ -109,10 +112,13 @@ done g t c =
 
 pub invariant_of-self-2 : goal.invariant_of-self-2
 invariant_of-self-2 g t c =
-    let ok : IsOk c.make_mut.result = ap (λ r. is_ok r) c.in-Ok.is in
-    rw c.make_mut.follows.holds ((done g t (goal.at.invariant_of-self-2 g t c).After-from).0)
+    subst (IsNode g.L.Label.label_of) (sym (c.make_mut.follows.holds _ (ap (λ r. is_ok r) c.in-Ok.is)))
+    (done g t (goal.at.invariant_of-self-2 g t c).After-from).0
 
 pub returns : goal.returns
 returns g t c =
-    let ok : IsOk c.make_mut.result = ap (λ r. is_ok r) c.in-Ok.is in
-    rw c.make_mut.follows.holds ((done g t (goal.at.returns g t c).After-from).1)
+    let tree = c.args.self.now in
+    subst (λ node. MatchResult c.push-pushed.result
+    (λ _. seen node ≡ (spliced (length tree.0) 0 (c.args.item ∷ []) tree.0, tree.1))
+    (λ back. (seen node ≡ tree) × (back ≡ c.args.item)))
+    (sym (c.make_mut.follows.holds _ (ap (λ r. is_ok r) c.in-Ok.is))) (done g t (goal.at.returns g t c).After-from).1

@@ -74,14 +74,6 @@ returns g c =
       ),
     )
 
-pub index_mut-requires : goal.index_mut-requires
-index_mut-requires g c =
-    omega (
-      arith,
-      ap (λ cs. length cs) c.in_default-insert.ensures.items,
-      some_in c.args.children.now.items c.requires.children,
-    )
-
 pub join_if_small-requires-clause-within : goal.join_if_small-requires-clause-within
 join_if_small-requires-clause-within g c =
     let new = record c.index_mut.result.now { label = c.in-Ok.label } in

@@ -82,9 +82,6 @@ returns-in_err-reserve-clause-same g c =
     let cs = c.args.children.now.items in
     subst (StandFor g.L.Label.label_of cs) (sym c.reserve.ensures.items) (stand_itself cs c.requires.children)
 
-pub index_mut-left-requires : goal.index_mut-left-requires
-index_mut-left-requires g c = omega (arith, ap (λ cs. length cs) c.in_ok-reserve.ensures.items, c.requires.within)
-
 pub insert-requires : goal.insert-requires
 insert-requires g c = omega (arith, ap (λ cs. length cs) c.in_ok-reserve.ensures.items, c.requires.within)
 

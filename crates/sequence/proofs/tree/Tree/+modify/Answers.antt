@@ -1,16 +1,24 @@
 -- The item is changed in the child that has it.
-use Rattle.std.proofs.Common.{◌≡◌, ◌∙◌, ℕ, ap, arith, length, length-set, refl, set, subst, sym}
-use Rattle.std.specs.Prelude.{IsOk, Some, is_ok, slice_get}
+use Rattle.std.proofs.Common.{◌≡◌, ◌+◌, ◌∙◌, ℕ, ap, arith, length, length-set, refl, set, subst, sym}
+use Rattle.std.specs.Prelude.{MatchResult, Some, is_ok, slice_get}
 use Rattle.std.proofs.lemmas.Option.{slice_get_read}
 use Rattle.std.proofs.lemmas.Result.{MatchResult-from_err}
+use Rattle.sequence.specs.declared.tree.Node.{Node}
 use Rattle.sequence.specs.declared.tree.Node.TheVariants.{Branch, Leaf}
+use Rattle.sequence.specs.Changes.{ChangesItem}
 use Rattle.sequence.specs.Nodes.{AreChildren, IsNode, items_in, seen}
+use Rattle.sequence.specs.Spots.{Leads}
 use Rattle.sequence.proofs.Calls.{kept_at}
 use Rattle.sequence.proofs.Nodes.Changed.{IsChanged, asked_below, changed_at, spot_inside}
 use Rattle.sequence.proofs.Nodes.Copied.{IsMade, made}
 use Rattle.sequence.proofs.tree.Tree.+modify.Given as given
 use Rattle.sequence.proofs.tree.Tree.+modify.Goals as goal
-use Rattle.sequence.proofs.tree.Tree.+modify.Goals.{After-index_mut, After-modify, In-Branch, In-Leaf}
+use Rattle.sequence.proofs.tree.Tree.+modify.Goals.{After-index_mut, After-modify, In-Branch, In-Leaf, In_ok-items}
+
+-- the first node of the tree is then what was written there
+written : (g : given.Over) (t : ℕ) (c : In_ok-items g t) (node : Node g.row.T.Denot g.row.L.Denot)
+    → c.make_mut.follows.lender node ≡ node
+written g t c node = c.make_mut.follows.holds node (ap (λ r. is_ok r) c.in_ok-items.was)
 
 -- the branch is whole, and has what the tree has
 branch : (g : given.Over) (t : ℕ) (c : In-Branch g t)
@@ -60,29 +68,24 @@ overflow_sub-spot g t c = c.spot_of-spot.ensures.inner (omega (arith))
 pub invariant_of-self-in-Leaf : goal.invariant_of-self-in-Leaf
 invariant_of-self-in-Leaf g t c =
     let node = leaf g t (goal.at.invariant_of-self-in-Leaf g t c).In-Leaf in
-    let ok : IsOk c.make_mut.result = ap (λ r. is_ok r) c.in_ok-items.was in
     let many = length-set c.in-Leaf.items.items c.args.index c.change.new.arg2 in
-    rw c.make_mut.follows.holds (record {
-      some = omega (arith, many, node.whole.some);
-      room = omega (arith, many, node.whole.room);
-    })
+    subst (IsNode g.L.Label.label_of) (sym (written g t (goal.at.invariant_of-self-in-Leaf g t c).In_ok-items _))
+    (record { some = omega (arith, many, node.whole.some); room = omega (arith, many, node.whole.room) })
 
 pub returns-in-Leaf : goal.returns-in-Leaf
 returns-in-Leaf g t c =
     let node = leaf g t (goal.at.returns-in-Leaf g t c).In-Leaf in
-    let ok : IsOk c.make_mut.result = ap (λ r. is_ok r) c.in_ok-items.was in
     let at = c.args.index in
-    let same = ap (λ t. t.0) node.same in
     let after = c.change.new.arg2 in
-    rw c.make_mut.follows.holds (
+    let is = ap (λ node. seen node) (written g t (goal.at.returns-in-Leaf g t c).In_ok-items _) in (
       record {
         before = c.index_mut.result.now;
         after = after;
         found = found g t (goal.at.returns-in-Leaf g t c).After-index_mut;
         called = record { shown = _; shows = refl; left = _; met = c.change.ensures; leaves = refl };
-        items = ap (λ es. set es at after) same;
+        items = (λ i. (is i).0) ∙ (λ i. set (node.same i).0 at after);
       },
-      ap (λ t. t.1) node.same,
+      (λ i. (is i).1) ∙ (λ i. (node.same i).1),
     )
 
 pub spot_of-spot-requires-clause-children : goal.spot_of-spot-requires-clause-children
@@ -96,7 +99,7 @@ modify-requires g t c κs within =
     let node = branch g t (goal.at.modify-requires g t c).In-Branch in
     let cs = c.in-Branch.children.items in
     let spot = c.spot_of-spot.result in
-    let leads = rw c.deref.ensures.value at c.spot_of-spot.ensures in
+    let leads = subst (λ cs. Leads cs (c.args.index + 1) spot) c.deref.ensures.value c.spot_of-spot.ensures in
     let d = c.index_mut-2.result.now in
     let is = c.index_mut-2.ensures.value in
     let high = ap (λ child. child.tree.1) is in
@@ -116,20 +119,23 @@ done : (g : given.Over) (t : ℕ) (c : After-modify g t)
     (record c.index_mut-2.result.now { tree = c.modify.new.self })) c.modify.result
 done g t c node =
     changed_at c.args.self.now c.in-Branch.children.items c.spot_of-spot.result c.index_mut-2.result.now node.whole
-    node.same c.args.index (rw c.deref.ensures.value at c.spot_of-spot.ensures) c.index_mut-2.ensures.value g.F.FnOnce
-    c.args.change c.modify.new.self c.modify.result c.modify.ensures c.requires.keeps
+    node.same c.args.index (subst (λ cs. Leads cs (c.args.index + 1) c.spot_of-spot.result) c.deref.ensures.value
+    c.spot_of-spot.ensures) c.index_mut-2.ensures.value g.F.FnOnce c.args.change c.modify.new.self c.modify.result c.modify.ensures c.requires.keeps
 
 pub invariant_of-self-2 : goal.invariant_of-self-2
 invariant_of-self-2 g t c =
-    let ok : IsOk c.make_mut.result = ap (λ r. is_ok r) c.in_ok-items.was in
     let at = goal.at.invariant_of-self-2 g t c in
-    rw c.make_mut.follows.holds ((done g t at.After-modify (branch g t at.In-Branch)).whole)
+    subst (IsNode g.L.Label.label_of) (sym (written g t at.In_ok-items _))
+    (done g t at.After-modify (branch g t at.In-Branch)).whole
 
 pub returns : goal.returns
 returns g t c =
-    let ok : IsOk c.make_mut.result = ap (λ r. is_ok r) c.in_ok-items.was in
     let at = goal.at.returns g t c in
-    rw c.make_mut.follows.holds ((done g t at.After-modify (branch g t at.In-Branch)).done)
+    let tree = c.args.self.now in
+    subst (λ node. MatchResult c.modify.result
+    (λ back. ChangesItem g.F.FnOnce c.args.change c.args.index tree.0 (seen node).0 back × ((seen node).1 ≡ tree.1))
+    (λ _. seen node ≡ tree)) (sym (written g t at.In_ok-items _))
+    (done g t at.After-modify (branch g t at.In-Branch)).done
 
 pub invariant_of-self : goal.invariant_of-self
 invariant_of-self g t c =

@@ -1,6 +1,6 @@
 -- The branch lets the item go out of one child.
 use Rattle.std.proofs.Common.{◌≡◌, ◌<◌, ◌≤◌, ◌-◌, ◌^◌, ◌∙◌, ℕ, List, [], ap, ap₂, sym, subst, arith, length, set}
-use Rattle.std.specs.Prelude.{IsOk, Some, is_ok, slice_get}
+use Rattle.std.specs.Prelude.{MatchResult, Some, is_ok, slice_get}
 use Rattle.std.proofs.lemmas.Nat.{pow_pos}
 use Rattle.std.proofs.lemmas.Result.{MatchResult-from_err}
 use Rattle.sequence.specs.declared.tree.Node.TheVariants.{Branch, Leaf}
@@ -146,14 +146,17 @@ done g t c =
 
 pub Tree::remove-invariant_of-self-2 : goal.Tree::remove-invariant_of-self-2
 Tree::remove-invariant_of-self-2 g t c =
-    let ok : IsOk c.make_mut.result = ap (λ r. is_ok r) c.in_ok-items.was in
-    rw c.make_mut.follows.holds
-    ((done g t (goal.at.Tree::remove-invariant_of-self-2 g t c).After-remove-2).whole)
+    subst (IsNode g.L.Label.label_of) (sym (c.make_mut.follows.holds _ (ap (λ r. is_ok r) c.in_ok-items.was)))
+    (done g t (goal.at.Tree::remove-invariant_of-self-2 g t c).After-remove-2).whole
 
 pub Tree::remove-returns : goal.Tree::remove-returns
 Tree::remove-returns g t c =
-    let ok : IsOk c.make_mut.result = ap (λ r. is_ok r) c.in_ok-items.was in
-    rw c.make_mut.follows.holds ((done g t (goal.at.Tree::remove-returns g t c).After-remove-2).done)
+    let tree = c.args.self.now in
+    let at = c.args.index in
+    subst (λ node. MatchResult c.remove-2.result
+    (λ item. (slice_get tree.0 at ≡ Some item) × (seen node ≡ (spliced at 1 [] tree.0, tree.1))) (λ _. seen node ≡ tree))
+    (sym (c.make_mut.follows.holds _ (ap (λ r. is_ok r) c.in_ok-items.was)))
+    (done g t (goal.at.Tree::remove-returns g t c).After-remove-2).done
 
 pub Child::remove-returns : goal.Child::remove-returns
 Child::remove-returns g t c =

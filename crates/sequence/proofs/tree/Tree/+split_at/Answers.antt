@@ -1,7 +1,8 @@
 -- The children before the cut and behind it, and the two lists of the child that is cut.
 use Rattle.std.proofs.Common.{◌≡◌, ◌+◌, ◌≤◌, ◌++◌, ◌∙◌, ap, arith, drop, get_or, length, subst, sym, take}
 use Rattle.std.specs.Prelude.{IfOk}
-use Rattle.sequence.specs.Nodes.{AreChildren, items_in}
+use Rattle.sequence.specs.Nodes.{AreChildren, IsNode, items_in, seen}
+use Rattle.sequence.specs.Spots.{Leads}
 use Rattle.sequence.proofs.Shapes.Parted.{back_is, front_is}
 use Rattle.sequence.proofs.tree.Tree.+split_at.Goals as goal
 
@@ -22,9 +23,9 @@ pub split_at-requires : goal.split_at-requires
 split_at-requires g t c κs within =
     let spot = c.spot_of-spot.result in
     let d = c.index.result.now in
-    let same = rw c.in-Branch.is at c.node.ensures.same in
-    let are = rw c.in-Branch.is at c.node.ensures.whole in
-    let leads = rw c.deref-2.ensures.value at c.spot_of-spot.ensures in
+    let same = subst (λ node. seen node ≡ c.args.self.now) c.in-Branch.is c.node.ensures.same in
+    let are = subst (IsNode g.L.Label.label_of) c.in-Branch.is c.node.ensures.whole in
+    let leads = subst (λ cs. Leads cs c.args.at spot) c.deref-2.ensures.value c.spot_of-spot.ensures in
     let level = (are.each spot.child d leads.within).level in
     let is = c.index.ensures in
     let inside : spot.place ≤ length d.tree.0 = omega (arith, leads.inside d, ap (λ child. length child.tree.0) is) in (
@@ -38,8 +39,8 @@ returns g t c =
     let at = c.args.at in
     let spot = c.spot_of-spot.result in
     let d = c.index.result.now in
-    let same = rw c.in-Branch.is at c.node.ensures.same in
-    let leads = rw c.deref-2.ensures.value at c.spot_of-spot.ensures in
+    let same = subst (λ node. seen node ≡ c.args.self.now) c.in-Branch.is c.node.ensures.same in
+    let leads = subst (λ cs. Leads cs at spot) c.deref-2.ensures.value c.spot_of-spot.ensures in
     let around = c.in_ok-around.around in
     let within = c.in_ok-within.within in
     let all = c.args.self.now.0 in

@@ -9,7 +9,7 @@ use Rattle.sequence.specs.Nodes.{CanLose, IsList, IsNode, height_in, items_in, s
 use Rattle.sequence.specs.Spots.{spliced}
 use Rattle.sequence.proofs.Calls.{kept_at}
 use Rattle.sequence.proofs.Nodes.Changed.{IsRemoved, Relabels, behind_first_one, first_gone, less}
-use Rattle.sequence.proofs.Nodes.Changed.{removed_at, removed_leaf}
+use Rattle.sequence.proofs.Nodes.Changed.{removed_at, removed_leaf, spot_inside}
 use Rattle.sequence.proofs.Nodes.Labelled.{first_spliced}
 use Rattle.sequence.proofs.Nodes.Copied.{IsMade, made}
 use Rattle.sequence.proofs.Nodes.Placed.{child_here}
@@ -118,11 +118,11 @@ Tree::remove-remove-requires-2 g t c κs within =
     let d = c.index_mut.result.now in
     let is = c.index_mut.ensures.value in
     let high = ap (λ child. child.tree.1) is in
-    let long = ap (λ child. length child.tree.0) is in
     let level = (same.children.each spot.child d leads.within).level in
     let spare = subst (λ child. CanLose child.tree) (sym is) (c.in_ok-spot.ensures.spare d) in
     let child = child_here cs spot.child d same.children leads.within is in
-    let there : spot.place - 1 < length d.tree.0 = omega (arith, leads.inside d, leads.inner (omega arith), long) in (
+    let tree = (λ i. (same.items i, same.height i)) ∙ node.same in
+    let there = spot_inside c.args.self.now cs spot d same.children tree c.args.index leads is in (
       omega (arith, c.decreases, ap (λ t. t.1) node.same, high, level, same.height),
       (within.0, (within.1, (c.requires.copies, (child, (spare, there))))),
     )

@@ -162,17 +162,17 @@ done g t c node u =
 -- the same where a leaf goes with its only item
 gone : (g : given.Over) (t : ℕ) (c : After-pop_leaf g t)
     → IsMade g.L.Label.label_of c.args.self.now (Branch c.in-Branch.children)
-    → c.place-at.result < length c.in-Branch.children.items
     → let cs = c.pop_leaf.new.children.items in
     AreChildren g.L.Label.label_of cs × MatchResult c.pop_leaf.result
     (IsPopped c.args.end c.args.least c.args.self.now (items_in cs, height_in cs)) (λ _. MakeUp cs c.args.self.now)
-gone g t c node h =
+gone g t c node =
     let tree = c.args.self.now in
     let cs = c.in-Branch.children.items in
     let i = c.place-at.result in
     let d = c.index.result.now in
     let count : c.len-2.result ≡ length cs = omega (arith, c.len-2.ensures) in
     let first = c.place-at.ensures.place ∙ ap (λ n. place_at c.args.end n) count in
+    let h : i < length cs = omega (arith, c.place-at.ensures.within, count) in
     leaf_gone tree cs i d node.whole node.same h c.index.ensures c.args.end c.args.least first c.requires.some
     (λ low. can_lose tree cs i d node.whole node.same h c.index.ensures
     (omega (arith, low, c.if-len-least.false, c.len.ensures)))
@@ -183,14 +183,14 @@ invariant_of-self-then-index-eq1 g t c =
     let ok : IsOk c.make_mut.result = ap (λ r. is_ok r) c.in_ok-items.was in
     let at = goal.at.invariant_of-self-then-index-eq1 g t c in
     subst (IsNode g.L.Label.label_of) (sym (c.make_mut.follows.holds _ ok))
-    (gone g t at.After-pop_leaf (branch g t at.In-Branch) (omega (arith, c.place-at.ensures.within, c.len-2.ensures))).0
+    (gone g t at.After-pop_leaf (branch g t at.In-Branch)).0
 
 pub returns-then-index-eq1 : goal.returns-then-index-eq1
 returns-then-index-eq1 g t c =
     let at = goal.at.returns-then-index-eq1 g t c in
     subst (λ node. MatchResult c.pop_leaf.result (IsPopped c.args.end c.args.least c.args.self.now (seen node))
     (λ _. seen node ≡ c.args.self.now)) (sym (c.make_mut.follows.holds _ (ap (λ r. is_ok r) c.in_ok-items.was)))
-    (gone g t at.After-pop_leaf (branch g t at.In-Branch) (omega (arith, c.place-at.ensures.within, c.len-2.ensures))).1
+    (gone g t at.After-pop_leaf (branch g t at.In-Branch)).1
 
 pub invariant_of-self-2 : goal.invariant_of-self-2
 invariant_of-self-2 g t c =

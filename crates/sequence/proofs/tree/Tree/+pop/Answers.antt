@@ -40,6 +40,10 @@ returns-in_err-items g t c =
 pub pop_leaf-requires-clause-within : goal.pop_leaf-requires-clause-within
 pop_leaf-requires-clause-within g t c = omega (arith, c.place-at.ensures.within, c.len-2.ensures)
 
+pub pop_leaf-requires-clause-child : goal.pop_leaf-requires-clause-child
+pop_leaf-requires-clause-child g t c =
+    (branch g t (goal.at.pop_leaf-requires-clause-child g t c).In-Branch).whole.each
+
 pub pop_leaf-requires-clause-one : goal.pop_leaf-requires-clause-one
 pop_leaf-requires-clause-one g t c d =
     let node = branch g t (goal.at.pop_leaf-requires-clause-one g t c).In-Branch in

@@ -12,12 +12,15 @@ lists_around-requires-clause-children g t c =
 
 pub spot_of-spot-requires-clause-children : goal.spot_of-spot-requires-clause-children
 spot_of-spot-requires-clause-children g t c =
-    rw c.deref-2.ensures.value (rw c.in-Branch.is at c.node.ensures.whole)
+    subst (AreChildren g.L.Label.label_of) (sym c.deref-2.ensures.value)
+    (subst (IsNode g.L.Label.label_of) c.in-Branch.is c.node.ensures.whole)
 
 pub spot_of-spot-requires-clause-within : goal.spot_of-spot-requires-clause-within
 spot_of-spot-requires-clause-within g t c =
-    let same = rw c.in-Branch.is at c.node.ensures.same in
-    rw c.deref-2.ensures.value (omega (arith, c.requires.within, ap (λ t. length t.0) same))
+    let same = subst (λ node. seen node ≡ c.args.self.now) c.in-Branch.is c.node.ensures.same in
+    let within : c.args.at ≤ length (items_in c.in-Branch.children.items) =
+    omega (arith, c.requires.within, ap (λ t. length t.0) same) in
+    subst (λ cs. c.args.at ≤ length (items_in cs)) (sym c.deref-2.ensures.value) within
 
 pub split_at-requires : goal.split_at-requires
 split_at-requires g t c κs within =

@@ -1,5 +1,5 @@
 -- The branch lets the item go out of one child.
-use Rattle.std.proofs.Common.{◌≡◌, ◌<◌, ◌≤◌, ◌-◌, ◌^◌, ◌∙◌, ℕ, List, [], ap, ap₂, sym, subst, arith, length, set}
+use Rattle.std.proofs.Common.{◌≡◌, ◌<◌, ◌≤◌, ◌^◌, ◌∙◌, ℕ, List, [], ap, ap₂, sym, subst, arith, length, set}
 use Rattle.std.specs.Prelude.{MatchResult, Some, is_ok, slice_get}
 use Rattle.std.proofs.lemmas.Nat.{pow_pos}
 use Rattle.std.proofs.lemmas.Result.{MatchResult-from_err}
@@ -154,7 +154,8 @@ Tree::remove-returns g t c =
     let tree = c.args.self.now in
     let at = c.args.index in
     subst (λ node. MatchResult c.remove-2.result
-    (λ item. (slice_get tree.0 at ≡ Some item) × (seen node ≡ (spliced at 1 [] tree.0, tree.1))) (λ _. seen node ≡ tree))
+    (λ item. (slice_get tree.0 at ≡ Some item) × (seen node ≡ (spliced at 1 [] tree.0, tree.1)))
+    (λ _. seen node ≡ tree))
     (sym (c.make_mut.follows.holds _ (ap (λ r. is_ok r) c.in_ok-items.was)))
     (done g t (goal.at.Tree::remove-returns g t c).After-remove-2).done
 

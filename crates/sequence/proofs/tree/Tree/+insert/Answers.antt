@@ -10,7 +10,8 @@ use Rattle.sequence.proofs.Calls.{kept_at}
 use Rattle.sequence.proofs.Nodes.Copied.{IsMade, made}
 use Rattle.sequence.proofs.Nodes.Ended.{IsEnded}
 use Rattle.sequence.proofs.Pieces.{IsIn, beside_are, count_in, counts, fits_in, items_here, lower_in, part_here}
-use Rattle.sequence.proofs.Pieces.{leaf_is, put_back, put_beside, put_in_leaf, put_under_it, room_in, same_part, within_in}
+use Rattle.sequence.proofs.Pieces.{leaf_is, put_back, put_beside, put_in_leaf, put_under_it, room_in, same_part}
+use Rattle.sequence.proofs.Pieces.{within_in}
 use Rattle.sequence.proofs.tree.Tree.+insert.Given as given
 use Rattle.sequence.proofs.tree.Tree.+insert.Goals as goal
 use Rattle.sequence.proofs.tree.Tree.+insert.Goals.{After-insert, After-insert-arg-1, In-Branch, In-Leaf, In-Ok}

@@ -120,7 +120,8 @@ done : (g : given.Over) (t : ℕ) (c : After-modify g t)
 done g t c node =
     changed_at c.args.self.now c.in-Branch.children.items c.spot_of-spot.result c.index_mut-2.result.now node.whole
     node.same c.args.index (subst (λ cs. Leads cs (c.args.index + 1) c.spot_of-spot.result) c.deref.ensures.value
-    c.spot_of-spot.ensures) c.index_mut-2.ensures.value g.F.FnOnce c.args.change c.modify.new.self c.modify.result c.modify.ensures c.requires.keeps
+    c.spot_of-spot.ensures) c.index_mut-2.ensures.value g.F.FnOnce c.args.change c.modify.new.self c.modify.result
+    c.modify.ensures c.requires.keeps
 
 pub invariant_of-self-2 : goal.invariant_of-self-2
 invariant_of-self-2 g t c =

@@ -17,7 +17,8 @@ use Rattle.sequence.proofs.Nodes.Placed.{child_here}
 use Rattle.sequence.proofs.Nodes.Wide.{some_in}
 use Rattle.sequence.proofs.tree.Tree.+pop.Given as given
 use Rattle.sequence.proofs.tree.Tree.+pop.Goals as goal
-use Rattle.sequence.proofs.tree.Tree.+pop.Goals.{After-from, After-pop-arg-1, After-pop_in_leaf, After-pop_leaf, In-Branch}
+use Rattle.sequence.proofs.tree.Tree.+pop.Goals.{After-from, After-pop-arg-1, After-pop_in_leaf, After-pop_leaf}
+use Rattle.sequence.proofs.tree.Tree.+pop.Goals.{In-Branch}
 
 -- the branch is whole, and has what the tree has
 branch : (g : given.Over) (t : ℕ) (c : In-Branch g t)
@@ -52,8 +53,7 @@ pop_leaf-requires-clause-one g t c d =
     let e = c.index.result.now in
     let h : i < length cs = omega (arith, c.place-at.ensures.within, c.len-2.ensures) in
     let same = c.index.ensures ∙ get_or_default cs i e d h in
-    let counted = (child_here cs i e node.whole h c.index.ensures).counted in
-    omega (arith, counted, c.if-index-eq1.true, ap (λ child. length child.tree.0) same)
+    omega (arith, (node.whole.each i d h).counted, c.if-index-eq1.true, ap (λ child. child.len) same)
 
 pub place-at-requires : goal.place-at-requires
 place-at-requires g t c =
@@ -66,9 +66,11 @@ record IsUnder {T L : Type 0} (cs : List (Child T L)) (i : ℕ) (d : Child T L) 
   child : IsChild (d.tree.1 + 1) d
   some : 1 < length d.tree.0
 
+-- the place is one of theirs
 inside : (g : given.Over) (t : ℕ) (c : After-pop-arg-1 g t) → c.place-at.result < length c.in-Branch.children.items
 inside g t c = omega (arith, c.place-at.ensures.within, c.len-2.ensures)
 
+-- the child has other items too, as it was not found to have one
 others : (g : given.Over) (t : ℕ) (c : After-pop-arg-1 g t) → c.place-at.result < length c.in-Branch.children.items
     → let d = c.index_mut-child.result.now in
     IsChild (d.tree.1 + 1) d → 1 < length d.tree.0
@@ -78,6 +80,7 @@ others g t c h child =
     c.index.ensures d c.index_mut-child.ensures.value in
     omega (arith, child.counted, child.wide, pow_pos d.tree.1, c.if-index-eq1.false, ap (λ c. c.len) seen)
 
+-- so the child is such a one
 under : (g : given.Over) (t : ℕ) (c : After-pop-arg-1 g t)
     → IsMade g.L.Label.label_of c.args.self.now (Branch c.in-Branch.children)
     → IsUnder c.in-Branch.children.items c.place-at.result c.index_mut-child.result.now
@@ -159,7 +162,8 @@ done g t c node u =
     let counted = one_less d.len c.from.result c.is_ok.result c.from.ensures c.pop-popped.result c.is_ok.ensures.value
     (omega (arith, u.some, u.child.counted)) in
     popped_under tree cs i d node.whole node.same u.within is c.args.end c.args.least _ first u.some
-    (λ low. can_lose tree cs i d node.whole node.same u.within is (omega (arith, low, c.if-len-least.false, c.len.ensures)))
+    (λ low. can_lose tree cs i d node.whole node.same u.within is
+    (omega (arith, low, c.if-len-least.false, c.len.ensures)))
     (omega arith) c.pop-popped.new.self (d.len - c.from.result) c.pop-popped.result c.pop-popped.ensures counted.0
     counted.1
 

@@ -84,7 +84,8 @@ returns-in-Leaf g t c =
     subst (λ node. MatchResult c.push_in_leaf.result
     (λ _. seen node ≡ (spliced (length tree.0) 0 (c.args.item ∷ []) tree.0, tree.1))
     (λ back. (seen node ≡ tree) × (back ≡ c.args.item)))
-    (sym (c.make_mut.follows.holds _ (ap (λ r. is_ok r) c.in-Ok.is))) (leaf g t (goal.at.returns-in-Leaf g t c).After-push_in_leaf).1
+    (sym (c.make_mut.follows.holds _ (ap (λ r. is_ok r) c.in-Ok.is)))
+    (leaf g t (goal.at.returns-in-Leaf g t c).After-push_in_leaf).1
 
 -- the children then
 done : (g : given.Over) (t : ℕ) (c : After-from g t)

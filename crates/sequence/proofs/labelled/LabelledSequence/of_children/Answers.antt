@@ -1,4 +1,5 @@
-use Rattle.std.proofs.Common.{◌∙◌, ap, arith, length, sym, subst}
+use Rattle.std.proofs.Common.{◌≡◌, ◌<◌, ◌∙◌, List, [], ◌∷◌, ap, arith, length, refl, sym, subst}
+use Rattle.sequence.specs.declared.tree.Child.{Child}
 use Rattle.sequence.specs.Nodes.{AreChildren, items_in}
 use Rattle.sequence.proofs.Nodes.Children.{children_are, items_only}
 use Rattle.sequence.proofs.labelled.LabelledSequence.of_children.Goals as goal
@@ -29,3 +30,11 @@ invariant_of-result g c = c.count-len.ensures ∙ ap (λ es. length es) (sym (re
 
 pub count-len-requires-clause-each : goal.count-len-requires-clause-each
 count-len-requires-clause-each g c i d h = (c.requires.level.each i d h).counted
+
+-- there are no items under no children
+none : {T L : Type 0} (cs : List (Child T L)) → length cs < 1 → [] ≡ items_in cs
+none [] few = refl
+none (d ∷ cs) few = absurd (omega (arith, few))
+
+pub returns-in-empty : goal.returns-in-empty
+returns-in-empty g c = c.empty.ensures ∙ none c.args.children.now c.in-empty.len_below

@@ -1,4 +1,5 @@
-use Rattle.std.proofs.Common.{◌≡◌, ◌+◌, ◌∙◌, ◌∷◌, ◌++◌, [], ap, arith, length, length-append, reverse, subst, sym}
+use Rattle.std.proofs.Common.{◌≡◌, ◌+◌, ◌∙◌, ◌∷◌, ◌++◌, [], ap, append-nil, arith, length, length-append, refl, reverse}
+use Rattle.std.proofs.Common.{subst, sym}
 use Rattle.std.proofs.lemmas.Nat.{pow_pos}
 use Rattle.sequence.specs.Nodes.{AreParts, IsChild, seen}
 use Rattle.sequence.proofs.Shapes.Built.{IsBefore, parts_all, parts_more}
@@ -56,3 +57,19 @@ overflow_sub-len g c =
     let halves = (rw c.in-Some.is at c.in_ok-child.ensures.split).0 in
     let more = length-append (seen c.split_node.new.self).0 half.tree.0 in
     omega (arith, c.off.invariant.len, halves.child.counted, ap (λ es. length es) halves.items, more)
+
+pub off-init : goal.off-init
+off-init g c =
+    let tree = seen c.args.node in
+    let none = c.new-children.ensures.items in
+    record {
+      node = c.requires.node;
+      height = refl;
+      wide = c.requires.wide;
+      len = c.requires.len;
+      before = subst (IsBefore g.L.Label.label_of (tree.1 + 1) tree.0 tree.0) (sym none) record {
+        each = λ k d h. absurd (omega (arith, h));
+        labels = λ k d h. absurd (omega (arith, h));
+        items = append-nil tree.0;
+      };
+    }
